@@ -14,11 +14,12 @@ from functools import cache
 from pathlib import Path
 from typing import Iterable
 
+from definitions import paths_in
 from repository import CRATES, TOP, reachable, toolchain
 
 NAME = re.compile(r"\bRattle\.(star_\w+\.(?:specs|proofs)(?:\.[\w'+-]+)*)")
 ERROR = re.compile(r"^\./proofs/(\w+?)\.antt:(\d+):\d+: error(.*)$", re.M)
-GROUPED = re.compile(r"^((?:pub )?use Rattle\.star_\w+(?:\.\w+)+)\.\{([^}]*\w\.\w[^}]*)\}$", re.M)
+GROUPED = re.compile(r"^((?:pub )?use )(Rattle\.star_\w+(?:\.\w+)*)\.\{(.*\w\.[\w{].*)\}$", re.M)
 # The crates of copies and of worked rows, and the function whose proof cites the copies.
 CRATE, ROWS, ANCHOR = "star_planted", "star_examples", "planted"
 
@@ -26,7 +27,7 @@ CRATE, ROWS, ANCHOR = "star_planted", "star_examples", "planted"
 def one_by_one(text: str) -> str:
     """Returns a file with an import for each name where one import names several modules."""
     one = lambda path: re.sub(r"\.([^.]+)$", r".{\1}", path)
-    return GROUPED.sub(lambda found: "\n".join(one(f"{found[1]}.{it.strip()}") for it in found[2].split(",")), text)
+    return GROUPED.sub(lambda found: "\n".join(found[1] + one(it) for it in paths_in(found[2], found[3])), text)
 
 
 def module_in(name: str, known: Iterable[str]) -> str | None:

@@ -70,6 +70,19 @@ class Key(NamedTuple):
         return f"{self.crate}/specs/{self.module.replace('.', '/')}.antt"
 
 
+def paths_in(path: str, names: str) -> Iterator[str]:
+    """Yields the whole path of each name of an import, whose braces may be nested."""
+    depth, item = 0, ""
+    for sign in f"{names},":
+        if sign == "," and not depth:
+            head, _, inner = item.strip().partition(".{")
+            yield from paths_in(f"{path}.{head}", inner[:-1]) if inner else [f"{path}.{head}"] if head else []
+            item = ""
+        else:
+            depth += (sign == "{") - (sign == "}")
+            item += sign
+
+
 class Imports:
     """The names that a file imports."""
 
@@ -81,17 +94,17 @@ class Imports:
     def add(self, line: str) -> None:
         """Adds the imports of a line, if it is a `use` of definitions."""
         found = USE.match(line.strip())
-        crate, _, rest = found["path"].partition(".") if found else ("", "", "")
-        area, _, module = rest.partition(".")
-        if not found or area == "proofs":
-            return
-        place = (crate, module if area == "specs" else rest)
-        if found["names"] is None:
-            self.modules[found["alias"] or place[1].split(".")[-1]] = place
-        for name in filter(None, (it.strip() for it in (found["names"] or "").split(","))):
-            path, _, alias = name.partition(" as ")
-            below, _, name = path.rpartition(".")
-            self.names[alias or name] = Key(place[0], ".".join(filter(None, (place[1], below))), name)
+        if found and found["names"] is None:
+            crate, area, *parts = f"{found['path']}.".split(".")
+            if area != "proofs":
+                module = ".".join(filter(None, parts if area == "specs" else [area, *parts]))
+                self.modules[found["alias"] or module.split(".")[-1]] = (crate, module)
+        for path in paths_in(found["path"], found["names"]) if found and found["names"] else ():
+            path, _, alias = path.partition(" as ")
+            crate, area, *parts = path.split(".")
+            if area != "proofs":
+                *module, name = parts if area == "specs" else [area, *parts]
+                self.names[alias or name] = Key(crate, ".".join(module), name)
 
     def keys_in(self, text: str) -> set[Key]:
         """Returns the keys of the names in a text."""

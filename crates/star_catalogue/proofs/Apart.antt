@@ -1,7 +1,5 @@
 -- Lists whose elements all differ.
-use Rattle.std.proofs.Common.{◌≡◌, ◌≢◌, ℤ, suc, List, [], ◌∷◌, AllPairs, map, ap, arith, get_or}
-use Rattle.std.proofs.{lemmas.Bool.and_from, lemmas.Bool.and_parts, lemmas.Bool.Decides.Decides-int_eq, lemmas.List.Elements.All-map, lemmas.List.Kept.AllPairs-cons, lemmas.Map.Made.AllPairs-from_IsDistinct}
-use Rattle.std.specs.{Bool.Decides, List.IsDistinct, Ordering.int_eq}
+use Rattle.std.{proofs.Common.{◌≡◌, ◌≢◌, ℤ, suc, List, [], ◌∷◌, AllPairs, map, ap, arith, get_or}, proofs.lemmas.Bool.{and_from, and_parts}, proofs.lemmas.Bool.Decides.Decides-int_eq, proofs.lemmas.List.Elements.All-map, proofs.lemmas.List.Kept.AllPairs-cons, proofs.lemmas.Map.Made.AllPairs-from_IsDistinct, specs.Bool.Decides, specs.List.IsDistinct, specs.Ordering.int_eq}
 use Rattle.star_catalogue.specs.Private.Keys.{same_pair}
 
 -- a function that keeps elements apart

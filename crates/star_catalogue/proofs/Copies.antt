@@ -1,7 +1,5 @@
 -- A list that is copied element by element.
-use Rattle.std.proofs.Common.{◌≡◌, ◌+◌, ◌∷◌, ◌++◌, ℕ, List, [], Some, ap, sym, take, ◌∙◌}
-use Rattle.std.proofs.{lemmas.List.take_more, lemmas.Option.get_or_from_slice_get, lemmas.Option.slice_get_within}
-use Rattle.std.specs.List.{slice_get}
+use Rattle.std.{proofs.Common.{◌≡◌, ◌+◌, ◌∷◌, ◌++◌, ℕ, List, [], Some, ap, sym, take, ◌∙◌}, proofs.lemmas.List.take_more, proofs.lemmas.Option.{get_or_from_slice_get, slice_get_within}, specs.List.slice_get}
 
 -- one more element
 pub copied_more : {X : Type 0} (xs copied more : List X) (i : ℕ) (x : X) → copied ≡ take i xs

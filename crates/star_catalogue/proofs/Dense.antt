@@ -1,8 +1,6 @@
 -- Rows of the numbers from the least key on.
-use Rattle.std.proofs.Common.{◌≡◌, ◌≢◌, ℕ, zero, suc, ◌<◌, ℤ, ◌-ℤ◌, ◌≤ℤ◌, false, cond, List, Some, None, length, nat_eq, replicate, set, refl, sym, ap, ◌∙◌, inl, inr, arith, length-set}
-use Rattle.std.proofs.{lemmas.Bool.cases_Bool, lemmas.Bool.cases_lt, lemmas.Bool.Decides.Decides-int_eq, lemmas.Bool.Decides.nat_tests, lemmas.Int.ints, lemmas.List.get_or-set_other, lemmas.List.get_or-set_same, lemmas.Option.slice_get-get_or, lemmas.Option.slice_get_past}
-use Rattle.std.specs.{Int.RustNames.int_lt, Int.RustNames.unsigned_abs, List.slice_get, Ordering.int_eq}
-use Rattle.star_catalogue.specs.Private.Places.{dense_at, row_of_slot}
+use Rattle.std.{proofs.Common.{◌≡◌, ◌≢◌, ℕ, zero, suc, ◌<◌, ℤ, ◌-ℤ◌, ◌≤ℤ◌, false, cond, List, Some, None, length, nat_eq, replicate, set, refl, sym, ap, ◌∙◌, inl, inr, arith, length-set}, proofs.lemmas.Bool.{cases_Bool, cases_lt}, proofs.lemmas.Bool.Decides.{Decides-int_eq, nat_tests}, proofs.lemmas.Int.ints, proofs.lemmas.List.{get_or-set_other, get_or-set_same}, proofs.lemmas.Option.{slice_get-get_or, slice_get_past}, specs.Int.RustNames.{int_lt, unsigned_abs}, specs.List.slice_get, specs.Ordering.int_eq}
+use Rattle.star_catalogue.specs.Private.Indexes.{dense_at, row_of_slot}
 
 -- no number below the least key is one
 from_least : (least key : ℤ) → least ≤ℤ key → int_lt key least ≡ false
@@ -56,20 +54,20 @@ kept_other rows slot other v differ = elim (cases_lt other (length rows)) [
       ∙ sym (slice_get_past rows other past)
 ]
 
-pub put : (least : ℤ) (rows : List ℕ) (key : ℤ) (place : ℕ) → least ≤ℤ key
-    → unsigned_abs (key -ℤ least) < length rows → place < 4294967295 → (q : ℤ)
-    → dense_at least (set rows (unsigned_abs (key -ℤ least)) place) q
-    ≡ cond (int_eq key q) (Some place) (dense_at least rows q)
-put least rows key place above within few q =
+pub put : (least : ℤ) (rows : List ℕ) (key : ℤ) (index : ℕ) → least ≤ℤ key
+    → unsigned_abs (key -ℤ least) < length rows → index < 4294967295 → (q : ℤ)
+    → dense_at least (set rows (unsigned_abs (key -ℤ least)) index) q
+    ≡ cond (int_eq key q) (Some index) (dense_at least rows q)
+put least rows key index above within few q =
     let slot = unsigned_abs (key -ℤ least) in
     elim (cases_Bool (int_eq key q)) [
       | inl equal ↦
           let is : key ≡ q = (Decides-int_eq key q).0 equal in
-          let there : slice_get (set rows slot place) slot ≡ Some place =
-          slice_get-get_or (set rows slot place) slot 0 (simp length-set within)
-          ∙ ap Some (get_or-set_same rows slot place 0 within) in
-          rw equal (ap (dense_at least (set rows slot place)) (sym is)
-          ∙ taken least (set rows slot place) key place above there (λ e. omega (arith, e, few)))
+          let there : slice_get (set rows slot index) slot ≡ Some index =
+          slice_get-get_or (set rows slot index) slot 0 (simp length-set within)
+          ∙ ap Some (get_or-set_same rows slot index 0 within) in
+          rw equal (ap (dense_at least (set rows slot index)) (sym is)
+          ∙ taken least (set rows slot index) key index above there (λ e. omega (arith, e, few)))
       | inr other ↦
           rw other (elim (cases_Bool (int_lt q least)) [
             | inl below ↦ rw below refl
@@ -77,7 +75,7 @@ put least rows key place above within few q =
                 let differ : key ≢ q = λ e.
                 let equal = (Decides-int_eq key q).1 e in cc (equal, other) in
                 rw from
-                (ap row_of_slot (kept_other rows slot (unsigned_abs (q -ℤ least)) place
+                (ap row_of_slot (kept_other rows slot (unsigned_abs (q -ℤ least)) index
                 (slots_differ least key q above (at_least least q from) differ)))
           ])
     ]

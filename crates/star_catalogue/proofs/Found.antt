@@ -1,8 +1,6 @@
 -- The row with a key of one number.
-use Rattle.std.proofs.Common.{◌≡◌, ◌∷◌, ◌∙◌, ℕ, ℤ, List, [], All, Option, Some, None, get_or, length, map, sym, ap, arith}
-use Rattle.std.proofs.{lemmas.Bool.Decides.Decides-int_eq, lemmas.Cmp.int_eq_equiv, lemmas.Option.get_or_from_slice_get, lemmas.Option.slice_get-map, lemmas.Option.slice_get_within}
-use Rattle.std.specs.{Prelude.◌↔◌, List.slice_get, Option.option_map, Ordering.int_eq}
-use Rattle.star_catalogue.specs.Private.Places.{ArePlaces}
+use Rattle.std.{proofs.Common.{◌≡◌, ◌∷◌, ◌∙◌, ℕ, ℤ, List, [], All, Option, Some, None, get_or, length, map, sym, ap, arith}, proofs.lemmas.Bool.Decides.Decides-int_eq, proofs.lemmas.Cmp.int_eq_equiv, proofs.lemmas.Option.{get_or_from_slice_get, slice_get-map, slice_get_within}, specs.Prelude.◌↔◌, specs.List.slice_get, specs.Option.option_map, specs.Ordering.int_eq}
+use Rattle.star_catalogue.specs.Private.Indexes.{AreIndexes}
 
 one_numbers : (o : Option ℤ) (n : ℤ) → option_map (λ (m : ℤ). m ∷ []) o ≡ Some (n ∷ []) → o ≡ Some n
 one_numbers None n e = cc
@@ -10,7 +8,7 @@ one_numbers (Some m) n e = let same : m ≡ n = cc in ap (λ (k : ℤ). Some k) 
 
 -- an index of keys of one number leads to the rows that have these keys
 pub kept_one : (index : ℤ → Option ℕ) (numbers : List ℤ) (keys : List (List ℤ))
-    → ArePlaces int_eq index numbers → keys ≡ map (λ n. n ∷ []) numbers
+    → AreIndexes int_eq index numbers → keys ≡ map (λ n. n ∷ []) numbers
     → (key : ℤ) (row : ℕ) → (index key ≡ Some row) ↔ (slice_get keys row ≡ Some (key ∷ []))
 kept_one index numbers keys h is key row =
     let mapped : slice_get keys row ≡ option_map (λ (m : ℤ). m ∷ []) (slice_get numbers row) =

@@ -1,15 +1,9 @@
 -- The rows that foreign keys refer to.
-use Rattle.std.proofs.Common.{◌≡◌, ◌+◌, ◌<◌, ◌∷◌, ◌++◌, ◌∙◌, ℕ, ℤ, List, [], All, Contains, IsSome, MatchOption, Option, Some, None, ap, arith, get_or, inl, inr, length, refl, sym, take}
-use Rattle.std.proofs.{lemmas.List.length-append, lemmas.List.length-map, lemmas.List.map-append, lemmas.Option.get_or_from_slice_get, lemmas.Option.slice_get-get_or, lemmas.Option.slice_get-map, lemmas.Option.slice_get_within}
-use Rattle.std.specs.{List.slice_get, Option.option_map}
-use Rattle.star_schema.specs.{declared.column.ColumnId.ColumnId, declared.column.TheConstants.COLUMNS, declared.table.TableId.TableId, Bounds.numbers_of, Database.Database, Database.rows_in, Loadable.RefersTo, Loadable.keys_of, Schema.index_of, Schema.place_of, Schema.references}
-use Rattle.star_schema.specs.{Schema.table_of}
-use Rattle.star_catalogue.specs.Private.Referred.{AreFound, AreOfFirst, AreReferred, AreRowsReferredTo, rows_view}
-use Rattle.star_catalogue.specs.{declared.referred.Referred.Referred, ReferredRows.AreReferredRows}
-use Rattle.star_schema.proofs.Same.{at_index}
+use Rattle.std.{proofs.Common.{◌≡◌, ◌+◌, ◌<◌, ◌∷◌, ◌++◌, ◌∙◌, ℕ, ℤ, List, [], All, Contains, IsSome, MatchOption, Option, Some, None, ap, arith, get_or, inl, inr, length, refl, sym, take}, proofs.lemmas.List.{length-append, length-map, map-append}, proofs.lemmas.Option.{get_or_from_slice_get, slice_get-get_or, slice_get-map, slice_get_within}, specs.List.slice_get, specs.Option.option_map}
+use Rattle.star_schema.{specs.declared.column.ColumnId.ColumnId, specs.declared.column.TheConstants.COLUMNS, specs.declared.table.TableId.TableId, specs.Bounds.numbers_of, specs.Database.{Database, rows_in}, specs.Loadable.{RefersTo, keys_of}, specs.Schema.{index_of, position_of, references, table_of}, proofs.Same.at_index}
+use Rattle.star_catalogue.{specs.Private.Referred.{AreFound, AreOfFirst, AreReferred, AreRowsReferredTo, rows_view}, specs.declared.referred.Referred.Referred, specs.ReferredRows.AreReferredRows, proofs.Copies.copied_more}
 use Rattle.star_flat.proofs.Pushed.{pushed_cases}
-use Rattle.star_reader.proofs.RowPlaces.{length-numbers_at}
-use Rattle.star_catalogue.proofs.Copies.{copied_more}
+use Rattle.star_reader.proofs.RowIndexes.{length-numbers_at}
 
 pub found_more : (keys : List (List ℤ)) (numbers : List ℤ) (rows more : List ℕ) (i : ℕ) (number : ℤ)
     (row : ℕ) → AreFound keys (take i numbers) rows → more ≡ rows ++ row ∷ []
@@ -26,8 +20,7 @@ found_more keys numbers rows more i number row so_far pushed at key =
 
 -- a number that no row has as its key
 pub absent_one : (keys : List (List ℤ)) (numbers : List ℤ) (i : ℕ) (number : ℤ)
-    → slice_get numbers i ≡ Some number
-    → ((row : ℕ) → slice_get keys row ≡ Some (number ∷ []) → ⊥)
+    → slice_get numbers i ≡ Some number → ((row : ℕ) → slice_get keys row ≡ Some (number ∷ []) → ⊥)
     → All (λ n. Contains keys (n ∷ [])) numbers → ⊥
 absent_one keys numbers i number at none all =
     let within = slice_get_within numbers i number at in
@@ -42,7 +35,7 @@ found_count keys numbers rows h =
     sym (length-map rows (λ (r : ℕ). slice_get keys r)) ∙ ap length h.found
     ∙ length-map numbers (λ (n : ℤ). Some (n ∷ []))
 
--- the row at a place, and its key
+-- the row at a position, and its key
 pub row_there : (keys : List (List ℤ)) (numbers : List ℤ) (rows : List ℕ) (i : ℕ) (number : ℤ)
     → AreFound keys numbers rows → slice_get numbers i ≡ Some number
     → (row : ℕ) × (slice_get rows i ≡ Some row) × (slice_get keys row ≡ Some (number ∷ []))
@@ -82,8 +75,7 @@ of_table database c t refers (Some rows) found = λ u other. let same : t ≡ u 
 
 -- the rows of the columns, one column after the other
 pub of_one_more : {database : Database} {n : ℕ} {lists : List (List ℕ)} (c : ColumnId)
-    (rows : List ℕ)
-    (more : List (List ℕ)) → AreOfFirst database n lists → more ≡ lists ++ rows ∷ []
+    (rows : List ℕ) (more : List (List ℕ)) → AreOfFirst database n lists → more ≡ lists ++ rows ∷ []
     → slice_get COLUMNS n ≡ Some c → AreRowsReferredTo database c rows
     → AreOfFirst database (n + 1) more
 of_one_more {database} {n} {lists} c rows more so_far pushed at are =
@@ -122,7 +114,7 @@ are_rows database kept c are some = by (references c) refl
         record {
           all = found_count (keys_of t (rows_in database t))
               (numbers_of c (rows_in database (table_of c))) (rows_view kept c) found
-              ∙ length-numbers_at (place_of c) (rows_in database (table_of c));
+              ∙ length-numbers_at (position_of c) (rows_in database (table_of c));
           each = λ other row number refers_to at.
               let there = row_there (keys_of other (rows_in database other))
               (numbers_of c (rows_in database (table_of c))) (rows_view kept c) row number

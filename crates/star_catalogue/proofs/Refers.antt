@@ -1,16 +1,8 @@
 -- The foreign keys of lineorder: found, or the first that is absent.
-use Rattle.std.proofs.Common.{◌≡◌, ◌+◌, ◌<◌, ◌∷◌, ◌∙◌, ℕ, ℤ, List, [], All, true, false, Contains, Option, Some, None, drop, get_or, length, map, refl, sym, ap, inl, inr, arith}
-use Rattle.std.proofs.{Math.ListN.get_or-map, Math.Seq.drop-length, lemmas.Bool.cases_Bool, lemmas.List.length-map, lemmas.Cmp.int_eq_equiv, lemmas.List.Elements.All-map, lemmas.List.FromFn.get_or-enumerate_from, lemmas.List.FromFn.length-enumerate_from}
-use Rattle.std.proofs.{lemmas.Map.Keys.any_passes_from_place, lemmas.Map.Views.Contains-from_any, lemmas.Map.Views.list_any-from_Contains, lemmas.Option.slice_get-get_or, lemmas.Option.slice_get-map}
-use Rattle.std.specs.{Cmp.IsEquivalence, Cmp.Lexicographic.lists_equiv, Cmp.Rules.signed_items, List.enumerate_from, List.list_any, List.slice_get, Option.option_map}
-use Rattle.star_schema.specs.Loadable.{IsSound, RefersTo, foreign_keys, keys_of, number_at}
-use Rattle.star_schema.specs.{declared.column.ColumnId.ColumnId, declared.column.ColumnId.TheVariants.DDatekey, declared.table.TableId.TableId, declared.table.TableId.TheVariants.Lineorder, Bounds.numbers_at, Bounds.numbers_of, Database.Database, Database.rows_in, Schema.references}
-use Rattle.star_schema.specs.{Tables.Value}
-use Rattle.star_common.specs.First.{first_answer}
-use Rattle.star_common.proofs.Firsts.{all_without_answer, enumerated_at, first_answer_here, first_answer_none, first_answer_on}
-use Rattle.star_schema.proofs.KeyColumns.{foreign_key}
-use Rattle.star_catalogue.specs.Load.{absent_fault, foreign_key_fault, is_found, row_fault, same_key}
-use Rattle.star_catalogue.specs.{declared.fault.LoadFault.LoadFault, declared.fault.LoadFault.TheVariants.AbsentKey}
+use Rattle.std.{proofs.Common.{◌≡◌, ◌+◌, ◌<◌, ◌∷◌, ◌∙◌, ℕ, ℤ, List, [], All, true, false, Contains, Option, Some, None, drop, get_or, length, map, refl, sym, ap, inl, inr, arith}, proofs.Math.ListN.get_or-map, proofs.Math.Seq.drop-length, proofs.lemmas.Bool.cases_Bool, proofs.lemmas.List.length-map, proofs.lemmas.Cmp.int_eq_equiv, proofs.lemmas.List.Elements.All-map, proofs.lemmas.List.FromFn.{get_or-enumerate_from, length-enumerate_from}, proofs.lemmas.Map.Keys.any_passes_from_place, proofs.lemmas.Map.Views.{Contains-from_any, list_any-from_Contains}, proofs.lemmas.Option.{slice_get-get_or, slice_get-map}, specs.Cmp.IsEquivalence, specs.Cmp.Lexicographic.lists_equiv, specs.Cmp.Rules.signed_items, specs.List.{enumerate_from, list_any, slice_get}, specs.Option.option_map}
+use Rattle.star_schema.{specs.Loadable.{IsSound, RefersTo, foreign_keys, keys_of, number_at}, specs.declared.column.ColumnId.ColumnId, specs.declared.column.ColumnId.TheVariants.DDatekey, specs.declared.table.TableId.TableId, specs.declared.table.TableId.TheVariants.Lineorder, specs.Bounds.{numbers_at, numbers_of}, specs.Database.{Database, rows_in}, specs.Schema.references, specs.Tables.Value, proofs.KeyColumns.foreign_key}
+use Rattle.star_common.{specs.First.first_answer, proofs.Firsts.{all_without_answer, enumerated_at, first_answer_here, first_answer_none, first_answer_on}}
+use Rattle.star_catalogue.specs.{Load.{absent_fault, foreign_key_fault, is_found, row_fault, same_key}, declared.fault.LoadFault.LoadFault, declared.fault.LoadFault.TheVariants.AbsentKey}
 
 -- the number of a row in a column
 pub number_of_row : (c : ColumnId) (rows : List (List Value)) (row : ℕ) (n : ℤ) → row < length rows
@@ -27,12 +19,12 @@ key_is a b = (signed_items a b).0
 
 -- a number that is a key
 pub cell_known : (database : Database) (at_row : ℕ) (row : List Value) (c : ColumnId) (t : TableId)
-    (n : ℤ) (place : ℕ) → references c ≡ Some t → number_at c row ≡ n
-    → slice_get (keys_of t (rows_in database t)) place ≡ Some (n ∷ [])
+    (n : ℤ) (index : ℕ) → references c ≡ Some t → number_at c row ≡ n
+    → slice_get (keys_of t (rows_in database t)) index ≡ Some (n ∷ [])
     → foreign_key_fault database at_row row c ≡ None
-cell_known database at_row row c t n place refers number at =
+cell_known database at_row row c t n index refers number at =
     let found : list_any (same_key (n ∷ [])) (keys_of t (rows_in database t)) ≡ true =
-    any_passes_from_place (same_key (n ∷ [])) (keys_of t (rows_in database t)) place (n ∷ []) at
+    any_passes_from_place (same_key (n ∷ [])) (keys_of t (rows_in database t)) index (n ∷ []) at
     ((signed_items (n ∷ []) (n ∷ [])).1 refl) in
     let known : is_found database (references c) (number_at c row) ≡ true =
     rw (refers, number) found in
@@ -41,16 +33,16 @@ cell_known database at_row row c t n place refers number at =
 -- a number that is no key
 pub cell_absent : (database : Database) (at_row : ℕ) (row : List Value) (c : ColumnId) (t : TableId)
     (n : ℤ) → references c ≡ Some t → number_at c row ≡ n
-    → ((place : ℕ) → slice_get (keys_of t (rows_in database t)) place ≡ Some (n ∷ []) → ⊥)
+    → ((index : ℕ) → slice_get (keys_of t (rows_in database t)) index ≡ Some (n ∷ []) → ⊥)
     → foreign_key_fault database at_row row c ≡ Some (AbsentKey at_row c)
 cell_absent database at_row row c t n refers number none =
     let absent : list_any (same_key (n ∷ [])) (keys_of t (rows_in database t)) ≡ false =
     elim (cases_Bool (list_any (same_key (n ∷ [])) (keys_of t (rows_in database t)))) [
       | inl found ↦
-          let (place, within, is) =
+          let (index, within, is) =
           Contains-from_any key_is (n ∷ []) (keys_of t (rows_in database t)) found in
-          absurd (none place
-          (slice_get-get_or (keys_of t (rows_in database t)) place (n ∷ []) within
+          absurd (none index
+          (slice_get-get_or (keys_of t (rows_in database t)) index (n ∷ []) within
           ∙ ap (λ (k : List ℤ). Some k) is))
       | inr other ↦ other
     ] in
@@ -64,7 +56,7 @@ cell_free database at_row row c free =
     let known : is_found database (references c) (number_at c row) ≡ true = rw free refl in
     rw known refl
 
--- the column at a place of a slice that lists known ones
+-- the column at a position of a slice that lists known ones
 pub listed_at : (known columns : List ColumnId) (i : ℕ) → columns ≡ known → i < length columns
     → slice_get known i ≡ Some (get_or columns i DDatekey)
 listed_at known columns i are within =
@@ -178,10 +170,9 @@ none_absent database none c t refers =
 key_equiv : IsEquivalence same_key
 key_equiv = lists_equiv int_eq_equiv
 
-cell_sound : (database : Database) → IsSound database
-    → (at_row i : ℕ) (d : List Value) → i < length (rows_in database Lineorder)
-    → (c : ColumnId) → foreign_key_fault database at_row (get_or (rows_in database Lineorder) i d) c
-    ≡ None
+cell_sound : (database : Database) → IsSound database → (at_row i : ℕ) (d : List Value)
+    → i < length (rows_in database Lineorder) → (c : ColumnId)
+    → foreign_key_fault database at_row (get_or (rows_in database Lineorder) i d) c ≡ None
 unfolding numbers_at
 cell_sound database sound at_row i d within c = by (references c) refl
   where

@@ -1,8 +1,7 @@
 -- The printed form of load errors.
 use Rattle.std.specs.Prelude.{◌++◌, ℕ, List, codes, decimal}
 use Rattle.star_schema.specs.{declared.table.TableId.TableId, declared.table.TableId.TheVariants.Lineorder, Schema.column_name, Schema.table_name}
-use Rattle.star_catalogue.specs.declared.fault.LoadFault.TheVariants.{OutOfMemory, ByteOrderMark, TooManyRows, FieldCount, CellTooLong, BadByte, BadNumber, DuplicateKey, AbsentKey}
-use Rattle.star_catalogue.specs.{declared.fault.LoadFault.LoadFault}
+use Rattle.star_catalogue.specs.declared.fault.LoadFault.{TheVariants.{OutOfMemory, ByteOrderMark, TooManyRows, FieldCount, CellTooLong, BadByte, BadNumber, DuplicateKey, AbsentKey}, LoadFault}
 
 -- an error of a whole table
 unfoldable pub table_fault_text : List ℕ → TableId → List ℕ
@@ -20,7 +19,7 @@ cell_fault_text fault t at_row field =
     ++ (table_name t
     ++ (codes " record " ++ (decimal at_row ++ (codes " field " ++ decimal field)))))
 
--- the number and name of an error, with its place
+-- the number and name of an error, with its position
 abbrev pub load_fault_text : LoadFault → List ℕ
 load_fault_text OutOfMemory = codes "1 OutOfMemory"
 load_fault_text (ByteOrderMark t) = table_fault_text (codes "2 ByteOrderMark") t

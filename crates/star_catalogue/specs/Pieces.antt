@@ -1,7 +1,6 @@
 -- Five tables that are read in pieces.
 use Rattle.std.specs.Prelude.{◌≡◌, ℕ, List}
-use Rattle.star_schema.specs.declared.table.TableId.TheVariants.{Date, Customer, Supplier, Part, Lineorder}
-use Rattle.star_schema.specs.{Database.Database, Database.TableTexts, Loadable.IsLoadable, Loadable.database_of}
+use Rattle.star_schema.specs.{declared.table.TableId.TheVariants.{Date, Customer, Supplier, Part, Lineorder}, Database.{Database, TableTexts}, Loadable.{IsLoadable, database_of}}
 use Rattle.star_reader.specs.Partway.{HasReadText, Reading}
 use Rattle.star_catalogue.specs.declared.read_tables.ReadTables.{ReadTables}
 

@@ -1,5 +1,5 @@
 pub mod Columns
-pub mod Places
+pub mod Indexes
 pub mod Indexed
 pub mod Keys
 pub mod Kept

@@ -2,9 +2,7 @@
 
 ghost use Rattle.std.specs.Prelude.{◌≡◌, ◌↔◌, ◌≤◌, ◌<◌, ◌∷◌, [], ℕ, ℤ, All, Some, IfErr, IfOk, IsSome, List, length, slice_get};
 ghost use Rattle.star_common.specs.Memory.{UnlessMemory};
-ghost use Rattle.star_schema.specs.Columns.{AreBoundsI64, bounds_in, column_dictionary, column_numbers, column_texts};
-ghost use Rattle.star_schema.specs.{Bounds.greatest, Bounds.least, Database.TableTexts, Database.rows_in, Loadable.IsLoadable, Loadable.IsSound, Loadable.database_of, Loadable.keys_of, Schema.kind_of, Schema.references, Schema.table_of, Sizes.size_of, Tables.IsRowOf};
-ghost use Rattle.star_schema.specs.{declared.table.TableId.TableId, Dictionary.HasCode, Dictionary.codes_of, Dictionary.high_in, Dictionary.low_in};
+ghost use Rattle.star_schema.specs.{Columns.{AreBoundsI64, bounds_in, column_dictionary, column_numbers, column_texts}, Bounds.{greatest, least}, Database.{TableTexts, rows_in}, Loadable.{IsLoadable, IsSound, database_of, keys_of}, Schema.{kind_of, references, table_of}, Sizes.size_of, Tables.IsRowOf, declared.table.TableId.TableId, Dictionary.{HasCode, codes_of, high_in, low_in}};
 ghost use Rattle.star_column.specs.{Masks.lies, Masks.mask_of, Width.bits_of};
 ghost use Rattle.star_catalogue.specs.{ReferredRows.AreReferredRows, Load.load_fault, Load.texts_view, Pieces.AreRead, Pieces.AreReadSome, Pieces.IsReadNextTo, Pieces.with_lineorder_text, Private.FiveTables.AreRowsOfTables};
 
@@ -35,11 +33,7 @@ impl Drop for Catalogue {
 
 impl Model for Catalogue {
     ghost use Rattle.std.specs.Prelude.{All};
-    ghost use Rattle.star_schema.specs.Database.{Database, rows_in};
-    ghost use Rattle.star_schema.specs.Loadable.{IsSound};
-    ghost use Rattle.star_schema.specs.Tables.{IsRowOf};
-    ghost use Rattle.star_schema.specs.declared.table.TableId.{TableId};
-    ghost use Rattle.star_schema.specs.Columns.{AreBoundsI64, bounds_in};
+    ghost use Rattle.star_schema.specs.{Database.{Database, rows_in}, Loadable.IsSound, Tables.IsRowOf, declared.table.TableId.TableId, Columns.{AreBoundsI64, bounds_in}};
     ghost use Rattle.star_catalogue.specs.Private.Referred.{AreReferred};
 
     ghost Value = { Database };
@@ -168,8 +162,7 @@ impl Catalogue {
     pub fn number(&self, column: ColumnId, row: u32) -> i64
         requires kind { kind_of column ≡ Kind.Number }
         requires row { row < length (rows_in self.now (table_of column)) }
-        ensures { slice_get (column_numbers self.now column) row
-            ≡ Some result }
+        ensures { slice_get (column_numbers self.now column) row ≡ Some result }
     {
         self.tables.numbers(column).at(row)
     }
@@ -179,11 +172,9 @@ impl Catalogue {
     pub fn code(&self, column: ColumnId, row: u32) -> u32
         requires kind { kind_of column ≡ Kind.Text }
         requires row { row < length (rows_in self.now (table_of column)) }
-        ensures stands { slice_get
-            (column_dictionary self.now column) result
+        ensures stands { slice_get (column_dictionary self.now column) result
             ≡ slice_get (column_texts self.now column) row }
-        ensures within { result
-            < length (column_dictionary self.now column) }
+        ensures within { result < length (column_dictionary self.now column) }
     {
         self.tables.texts(column).code_at(row)
     }
@@ -191,8 +182,7 @@ impl Catalogue {
     /// Returns the text with a code in a text column.
     pub fn text(&self, column: ColumnId, code: u32) -> &[u8]
         requires kind { kind_of column ≡ Kind.Text }
-        requires code { code
-            < length (column_dictionary self.now column) }
+        requires code { code < length (column_dictionary self.now column) }
         ensures { HasCode (column_texts self.now column) result.now code }
     {
         self.tables.texts(column).text_of(code)
@@ -201,9 +191,7 @@ impl Catalogue {
     /// Returns the number of smaller texts in a column's dictionary.
     pub fn low(&self, column: ColumnId, text: &[u8]) -> u32
         requires { kind_of column ≡ Kind.Text }
-        ensures { result
-            ≡ low_in (column_dictionary self.now column)
-            text.now }
+        ensures { result ≡ low_in (column_dictionary self.now column) text.now }
     {
         self.tables.texts(column).low(text)
     }
@@ -211,9 +199,7 @@ impl Catalogue {
     /// Returns the number of smaller and equal texts in a column's dictionary.
     pub fn high(&self, column: ColumnId, text: &[u8]) -> u32
         requires { kind_of column ≡ Kind.Text }
-        ensures { result
-            ≡ high_in (column_dictionary self.now column)
-            text.now }
+        ensures { result ≡ high_in (column_dictionary self.now column) text.now }
     {
         self.tables.texts(column).high(text)
     }
@@ -221,8 +207,7 @@ impl Catalogue {
     /// Returns the number of texts in a column's dictionary, the distinct texts of the column.
     pub fn entries(&self, column: ColumnId) -> u32
         requires { kind_of column ≡ Kind.Text }
-        ensures { result
-            ≡ length (column_dictionary self.now column) }
+        ensures { result ≡ length (column_dictionary self.now column) }
     {
         self.tables.texts(column).entries()
     }
@@ -231,8 +216,7 @@ impl Catalogue {
     pub fn bounds(&self, column: ColumnId) -> Interval
         requires { kind_of column ≡ Kind.Number }
         ensures low { result.low ≡ least (column_numbers self.now column) }
-        ensures high { result.high
-            ≡ greatest (column_numbers self.now column) }
+        ensures high { result.high ≡ greatest (column_numbers self.now column) }
     {
         self.tables.numbers(column).bounds()
     }
@@ -253,8 +237,7 @@ impl Catalogue {
 
     /// Borrows a column from which many rows are read: its numbers, or the codes of its texts.
     pub fn column(&self, column: ColumnId) -> ColumnView<'_>
-        ensures numbers { kind_of column ≡ Kind.Number
-            → result ≡ column_numbers self.now column }
+        ensures numbers { kind_of column ≡ Kind.Number → result ≡ column_numbers self.now column }
         ensures texts { kind_of column ≡ Kind.Text
             → result ≡ codes_of (column_texts self.now column) }
     {
@@ -270,13 +253,9 @@ impl Catalogue {
     pub fn mask(&self, column: ColumnId, first: u32, low: i64, high: i64) -> u64
         requires { first ≤ length (rows_in self.now (table_of column)) }
         ensures numbers { kind_of column ≡ Kind.Number
-            → result
-            ≡ mask_of (lies low high) (column_numbers self.now column)
-            first }
+            → result ≡ mask_of (lies low high) (column_numbers self.now column) first }
         ensures texts { kind_of column ≡ Kind.Text
-            → result
-            ≡ mask_of (lies low high)
-            (codes_of (column_texts self.now column)) first }
+            → result ≡ mask_of (lies low high) (codes_of (column_texts self.now column)) first }
     {
         self.column(column).mask(first, low, high)
     }

@@ -1,9 +1,8 @@
 // The keys of a dimension, each with its row.
 
-ghost use Rattle.std.specs.Prelude.{◌≡◌, ◌<◌, ◌^◌, ◌-ℤ◌, ◌≤ℤ◌, ℤ, All, IfSome, MatchResult, Some, length};
-ghost use Rattle.std.specs.{List.IsDistinct, Int.RustNames.unsigned_abs, Option.option_map, Ordering.int_eq};
+ghost use Rattle.std.specs.{Prelude.{◌≡◌, ◌<◌, ◌^◌, ◌-ℤ◌, ◌≤ℤ◌, ℤ, All, IfSome, MatchResult, Some, length}, List.IsDistinct, Int.RustNames.unsigned_abs, Option.option_map, Ordering.int_eq};
 ghost use Rattle.star_common.specs.Memory.{UnlessMemory};
-ghost use Rattle.star_catalogue.specs.{Private.Indexed.lent_row, Private.Indexed.row_of_key, Private.Places.ArePlaces, Private.Places.dense_at, Private.Places.row_of_slot, Load.first_repeat};
+ghost use Rattle.star_catalogue.specs.{Private.Indexed.lent_row, Private.Indexed.row_of_key, Private.Indexes.AreIndexes, Private.Indexes.dense_at, Private.Indexes.row_of_slot, Load.first_repeat};
 
 use crate::far_keys::FarKeys;
 use crate::fault::LoadFault;
@@ -62,22 +61,21 @@ fn rows_from(
     requires few { length keys.now < 2 ^ 32 }
     requires least { All (λ key. least ≤ℤ key) keys.now }
     requires within { All (λ key. unsigned_abs (key -ℤ least) < span) keys.now }
-    ensures { MatchResult result
-        (λ rows. ArePlaces int_eq (dense_at least rows.items) keys.now
+    ensures { MatchResult result (λ rows. AreIndexes int_eq (dense_at least rows.items) keys.now
         × IsDistinct int_eq keys.now)
         (λ fault. UnlessMemory LoadFault.OutOfMemory fault
         (option_map (LoadFault.DuplicateKey table) (first_repeat int_eq keys.now) ≡ Some fault)) }
 {
     let mut rows = vec![in alloc; NO_ROW; span]?;
-    for (place, key) in keys.iter().enumerate() {
+    for (index, key) in keys.iter().enumerate() {
         let slot = key.abs_diff(least) as usize;
         if rows[slot] != NO_ROW {
             return Err(LoadFault::DuplicateKey {
                 table,
-                at_row: place as u32 + 1,
+                at_row: index as u32 + 1,
             });
         }
-        rows[slot] = place as u32;
+        rows[slot] = index as u32;
     }
     Ok(rows)
 }
@@ -129,7 +127,7 @@ impl DimensionKeys {
     ) -> Result<DimensionKeys, LoadFault>
         requires { length keys.now < 2 ^ 32 }
         ensures { MatchResult result
-            (λ index. ArePlaces int_eq (row_of_key index) keys.now × IsDistinct int_eq keys.now)
+            (λ index. AreIndexes int_eq (row_of_key index) keys.now × IsDistinct int_eq keys.now)
             (λ fault. UnlessMemory LoadFault.OutOfMemory fault
             (option_map (LoadFault.DuplicateKey table) (first_repeat int_eq keys.now)
             ≡ Some fault)) }

@@ -1,7 +1,6 @@
 // The rows of sparse keys.
 
-ghost use Rattle.std.specs.Prelude.{◌≡◌, ◌<◌, ◌^◌, MatchResult, Some, length, position};
-ghost use Rattle.std.specs.{List.IsDistinct, Option.option_map, Ordering.int_eq};
+ghost use Rattle.std.specs.{Prelude.{◌≡◌, ◌<◌, ◌^◌, MatchResult, Some, length, position}, List.IsDistinct, Option.option_map, Ordering.int_eq};
 ghost use Rattle.star_common.specs.Memory.{UnlessMemory};
 ghost use Rattle.star_catalogue.specs.Load.{first_repeat};
 
@@ -15,18 +14,17 @@ use std::alloc::Global;
 /// whose key an earlier one has.
 fn indexed(alloc: Global, table: TableId, keys: &[i64]) -> Result<IndexSet<i64, Seeded>, LoadFault>
     requires { length keys.now < 2 ^ 32 }
-    ensures { MatchResult result
-        (λ rows. (rows.keys ≡ keys.now) × IsDistinct int_eq keys.now)
+    ensures { MatchResult result (λ rows. (rows.keys ≡ keys.now) × IsDistinct int_eq keys.now)
         (λ fault. UnlessMemory LoadFault.OutOfMemory fault
         (option_map (LoadFault.DuplicateKey table) (first_repeat int_eq keys.now) ≡ Some fault)) }
 {
     let mut rows = IndexSet::with_capacity_and_hasher(alloc, keys.len(), Seeded::of_keys(keys))?;
-    for (place, key) in keys.iter().enumerate() {
+    for (index, key) in keys.iter().enumerate() {
         let (_, is_new) = rows.insert_full(*key)?;
         if !is_new {
             return Err(LoadFault::DuplicateKey {
                 table,
-                at_row: place as u32 + 1,
+                at_row: index as u32 + 1,
             });
         }
     }

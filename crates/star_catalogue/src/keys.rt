@@ -1,43 +1,42 @@
 // The keys of tables, which are distinct.
 
-ghost use Rattle.std.specs.Prelude.{◌≡◌, ◌≢◌, ◌↔◌, ◌<◌, ◌^◌, ℤ, AllPairs, IfOk, IsTrue, MatchResult, Some, length, slice_get};
-ghost use Rattle.std.specs.{List.IsDistinct, List.zip, BTreeMap.get, Option.option_map, declared.cmp.Ordering.TheVariants.Less};
+ghost use Rattle.std.specs.{Prelude.{◌≡◌, ◌≢◌, ◌↔◌, ◌<◌, ◌^◌, ℤ, AllPairs, IfOk, IsTrue, MatchResult, Some, length, slice_get}, List.{IsDistinct, zip}, BTreeMap.get, Option.option_map, declared.cmp.Ordering.TheVariants.Less};
 ghost use Rattle.star_common.specs.Memory.{UnlessMemory};
 ghost use Rattle.star_schema.specs.Loadable.{HasDistinctKeys, keys_of};
-ghost use Rattle.star_catalogue.specs.{Private.Indexed.lent_row, Private.Keys.AreKept, Private.Keys.pair_cmp, Private.Keys.row_in, Private.Keys.same_pair, Private.Places.ArePlaces, Load.first_repeat, Load.repeated_key_fault};
+ghost use Rattle.star_catalogue.specs.{Private.Indexed.lent_row, Private.Keys.AreKept, Private.Keys.pair_cmp, Private.Keys.row_in, Private.Keys.same_pair, Private.Indexes.AreIndexes, Load.first_repeat, Load.repeated_key_fault};
 
 use crate::dimension::{DimensionKeys, LentKeys};
 use crate::fault::LoadFault;
 use star_flat::{FlatNumbers, release};
 use star_reader::RawTable;
-use star_schema::{Key, TableId, key_of, place_of};
+use star_schema::{Key, TableId, key_of, position_of};
 use std::alloc::{AllocError, Global};
 use std::collections::BTreeMap;
 
 /// Returns the index of each key of a table, from 0, or the first record whose key an earlier one
 /// has. It is a tree; no keys are slow to find.
-fn places_of<K: Copy + Ord + Drop>(
+fn indexes_of<K: Copy + Ord + Drop>(
     alloc: Global,
     table: TableId,
     keys: &[K],
 ) -> Result<BTreeMap<K, u32>, LoadFault>
     requires { length keys.now < 2 ^ 32 }
     ensures { MatchResult result
-        (λ places. ArePlaces K.eq (get K.cmp places) keys.now × IsDistinct K.eq keys.now)
+        (λ indexes. AreIndexes K.eq (get K.cmp indexes) keys.now × IsDistinct K.eq keys.now)
         (λ fault. UnlessMemory LoadFault.OutOfMemory fault
         (option_map (LoadFault.DuplicateKey table) (first_repeat K.eq keys.now) ≡ Some fault)) }
 {
-    let mut places = BTreeMap::new(alloc);
-    for (place, key) in keys.iter().enumerate() {
-        let before = places.insert(*key, place as u32)?;
+    let mut indexes = BTreeMap::new(alloc);
+    for (index, key) in keys.iter().enumerate() {
+        let before = indexes.insert(*key, index as u32)?;
         if before.is_some() {
             return Err(LoadFault::DuplicateKey {
                 table,
-                at_row: place as u32 + 1,
+                at_row: index as u32 + 1,
             });
         }
     }
-    Ok(places)
+    Ok(indexes)
 }
 
 /// The rows of a table by key.
@@ -62,8 +61,7 @@ impl KeyIndex {
     /// has.
     pub(crate) fn build(alloc: Global, raw: &RawTable) -> Result<KeyIndex, LoadFault>
         requires { length raw.now.rows < 2 ^ 32 }
-        ensures { MatchResult result
-            (λ index. AreKept index (keys_of raw.now.table raw.now.rows)
+        ensures { MatchResult result (λ index. AreKept index (keys_of raw.now.table raw.now.rows)
             × HasDistinctKeys raw.now.table raw.now.rows)
             (λ fault. UnlessMemory LoadFault.OutOfMemory fault
             (repeated_key_fault raw.now.table raw.now.rows ≡ Some fault)) }
@@ -71,14 +69,14 @@ impl KeyIndex {
         let table = raw.table();
         match key_of(table) {
             Key::One(column) => {
-                let keys = wide(alloc, raw.numbers(place_of(column)))?;
+                let keys = wide(alloc, raw.numbers(position_of(column)))?;
                 let index = DimensionKeys::build(alloc, table, keys.as_slice())?;
                 release(keys);
                 Ok(KeyIndex::Dimension(index))
             }
             Key::Two(first, second) => {
-                let firsts = raw.numbers(place_of(first));
-                let seconds = raw.numbers(place_of(second));
+                let firsts = raw.numbers(position_of(first));
+                let seconds = raw.numbers(position_of(second));
                 check_pairs(alloc, table, firsts, seconds)?;
                 Ok(KeyIndex::Pairs)
             }
@@ -97,12 +95,12 @@ impl KeyIndex {
 }
 
 /// Returns the pair of numbers at an index.
-fn pair_at(firsts: &FlatNumbers, seconds: &FlatNumbers, place: usize) -> (i64, i64)
-    requires first { place < length firsts.now }
-    requires second { place < length seconds.now }
-    ensures { slice_get (zip firsts.now seconds.now) place ≡ Some result }
+fn pair_at(firsts: &FlatNumbers, seconds: &FlatNumbers, index: usize) -> (i64, i64)
+    requires first { index < length firsts.now }
+    requires second { index < length seconds.now }
+    ensures { slice_get (zip firsts.now seconds.now) index ≡ Some result }
 {
-    (firsts.get(place), seconds.get(place))
+    (firsts.get(index), seconds.get(index))
 }
 
 /// Tests whether a pair is less than another.
@@ -120,8 +118,8 @@ fn is_rising(firsts: &FlatNumbers, seconds: &FlatNumbers) -> bool
     ensures { IsTrue result → AllPairs (λ a b. a ≢ b) (zip firsts.now seconds.now) }
 {
     let mut before = (i64::MIN, i64::MIN);
-    for place in 0..firsts.len() {
-        let here = pair_at(firsts, seconds, place);
+    for index in 0..firsts.len() {
+        let here = pair_at(firsts, seconds, index);
         if !rises(before, here) {
             return false;
         }
@@ -140,8 +138,8 @@ fn pairs_of(
     ensures { IfOk result (λ pairs. pairs.items ≡ zip firsts.now seconds.now) }
 {
     let mut pairs = Vec::with_capacity(alloc, firsts.len())?;
-    for place in 0..firsts.len() {
-        pairs.push_reserved(pair_at(firsts, seconds, place));
+    for index in 0..firsts.len() {
+        pairs.push_reserved(pair_at(firsts, seconds, index));
     }
     Ok(pairs)
 }
@@ -151,8 +149,8 @@ fn wide(alloc: Global, numbers: &FlatNumbers) -> Result<Vec<i64>, AllocError>
     ensures { IfOk result (λ wide. wide.items ≡ numbers.now) }
 {
     let mut wide = Vec::with_capacity(alloc, numbers.len())?;
-    for place in 0..numbers.len() {
-        wide.push_reserved(numbers.get(place));
+    for index in 0..numbers.len() {
+        wide.push_reserved(numbers.get(index));
     }
     Ok(wide)
 }
@@ -166,8 +164,7 @@ fn check_pairs(
 ) -> Result<(), LoadFault>
     requires len { length firsts.now ≡ length seconds.now }
     requires few { length firsts.now < 2 ^ 32 }
-    ensures { MatchResult result
-        (λ _. AllPairs (λ a b. a ≢ b) (zip firsts.now seconds.now))
+    ensures { MatchResult result (λ _. AllPairs (λ a b. a ≢ b) (zip firsts.now seconds.now))
         (λ fault. UnlessMemory LoadFault.OutOfMemory fault
         (option_map (LoadFault.DuplicateKey table)
         (first_repeat same_pair (zip firsts.now seconds.now)) ≡ Some fault)) }
@@ -176,6 +173,6 @@ fn check_pairs(
         return Ok(());
     }
     let pairs = pairs_of(alloc, firsts, seconds)?;
-    places_of(alloc, table, pairs.as_slice())?;
+    indexes_of(alloc, table, pairs.as_slice())?;
     Ok(())
 }

@@ -30,8 +30,7 @@ fn check_cell(tables: &Tables, row: u32, column: ColumnId) -> Result<(), LoadFau
     requires row { row < length (rows_in tables.now TableId.Lineorder) }
     requires few { row + 1 < 2 ^ 32 }
     ensures { let values = slice_index_or (rows_in tables.now TableId.Lineorder) row [] in
-        MatchResult result
-        (λ _. foreign_key_fault tables.now (row + 1) values column ≡ None)
+        MatchResult result (λ _. foreign_key_fault tables.now (row + 1) values column ≡ None)
         (λ fault. foreign_key_fault tables.now (row + 1) values column ≡ Some fault) }
 {
     let Some(table) = references(column) else {
@@ -52,8 +51,7 @@ fn check_row(tables: &Tables, row: u32) -> Result<(), LoadFault>
     requires row { row < length (rows_in tables.now TableId.Lineorder) }
     requires few { row + 1 < 2 ^ 32 }
     ensures { let values = slice_index_or (rows_in tables.now TableId.Lineorder) row [] in
-        MatchResult result
-        (λ _. row_fault tables.now (row + 1) values ≡ None)
+        MatchResult result (λ _. row_fault tables.now (row + 1) values ≡ None)
         (λ fault. row_fault tables.now (row + 1) values ≡ Some fault) }
 {
     for column in foreign_key_columns() {
@@ -64,8 +62,7 @@ fn check_row(tables: &Tables, row: u32) -> Result<(), LoadFault>
 
 /// Checks the foreign keys of all rows of lineorder, row by row.
 fn check_references(tables: &Tables) -> Result<(), LoadFault>
-    ensures { MatchResult result
-        (λ _. absent_fault tables.now ≡ None)
+    ensures { MatchResult result (λ _. absent_fault tables.now ≡ None)
         (λ fault. absent_fault tables.now ≡ Some fault) }
 {
     for row in 0..tables.table(TableId::Lineorder).rows() {

@@ -166,10 +166,8 @@ fn rows_of(
     tables: &Tables,
     column: ColumnId,
 ) -> Result<Option<JoinIndex>, AllocError>
-    ensures { IfOk result
-        (λ found. MatchOption found
-        (¬ ((table : TableId) → references column ≡ Some table
-        → RefersTo tables.now column table))
+    ensures { IfOk result (λ found. MatchOption found
+        (¬ ((table : TableId) → references column ≡ Some table → RefersTo tables.now column table))
         (λ rows. AreRowsReferredTo tables.now column rows)) }
 {
     match references(column) {
@@ -182,11 +180,9 @@ impl Referred {
     /// Finds the rows that the foreign keys of lineorder refer to, if all of them are keys. It goes
     /// column by column, so that column and table are determined once for all rows.
     pub(crate) fn build(alloc: Global, tables: &Tables) -> Result<Option<Referred>, AllocError>
-        ensures { IfOk result
-            (λ found. MatchOption found
+        ensures { IfOk result (λ found. MatchOption found
             (¬ ((column : ColumnId) (table : TableId) → references column ≡ Some table
-            → RefersTo tables.now column table))
-            (AreReferred tables.now)) }
+            → RefersTo tables.now column table)) (AreReferred tables.now)) }
     {
         let mut rows = Vec::with_capacity(alloc, COLUMNS.len())?;
         for column in &COLUMNS {

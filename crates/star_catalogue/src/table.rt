@@ -1,7 +1,6 @@
 // A table in memory.
 
-ghost use Rattle.std.specs.Prelude.{◌≡◌, ◌↔◌, ◌<◌, ◌∷◌, [], ℕ, ℤ, List, Some, MatchResult, length, slice_get};
-ghost use Rattle.std.specs.{Option.option_map};
+ghost use Rattle.std.specs.{Prelude.{◌≡◌, ◌↔◌, ◌<◌, ◌∷◌, [], ℕ, ℤ, List, Some, MatchResult, length, slice_get}, Option.option_map};
 ghost use Rattle.star_common.specs.Memory.{UnlessMemory};
 ghost use Rattle.star_schema.specs.{Bounds.numbers_of, Loadable.HasDistinctKeys, Loadable.keys_of, Schema.kind_of, Schema.table_of, Tables.IsTable, Tables.rows_of, Texts.texts_of};
 ghost use Rattle.star_reader.specs.{Faults.text_fault, Partway.HasReadText};
@@ -13,7 +12,7 @@ use crate::fault::LoadFault;
 use crate::keys::KeyIndex;
 use star_column::{PackedColumn, TextColumn};
 use star_reader::{RawTable, TableReader};
-use star_schema::{ColumnId, Kind, TableId, place_of};
+use star_schema::{ColumnId, Kind, TableId, position_of};
 use std::alloc::Global;
 use std::marker::Model;
 
@@ -66,8 +65,7 @@ fn answer_of(alloc: Global, reader: Box<TableReader>, table: TableId) -> Result<
 /// Makes a table of the values that were read, if its keys are distinct, otherwise returns the
 /// first record whose key an earlier one has.
 fn keep(alloc: Global, raw: RawTable) -> Result<LoadedTable, LoadFault>
-    ensures { MatchResult result
-        (λ loaded. (loaded ≡ raw) × HasDistinctKeys raw.table raw.rows)
+    ensures { MatchResult result (λ loaded. (loaded ≡ raw) × HasDistinctKeys raw.table raw.rows)
         (λ fault. UnlessMemory LoadFault.OutOfMemory fault
         (repeated_key_fault raw.table raw.rows ≡ Some fault)) }
 {
@@ -92,10 +90,8 @@ impl LoadedTable {
         table: TableId,
     ) -> Result<Box<LoadedTable>, LoadFault>
         ensures { (most : ℕ) (text : List (List ℕ)) → HasReadText reader.value table most text
-            → MatchResult result
-            (λ loaded. IsTable table most text × (loaded.value.table ≡ table)
-            × (loaded.value.rows ≡ rows_of table text)
-            × HasDistinctKeys table (rows_of table text))
+            → MatchResult result (λ loaded. IsTable table most text × (loaded.value.table ≡ table)
+            × (loaded.value.rows ≡ rows_of table text) × HasDistinctKeys table (rows_of table text))
             (λ fault. UnlessMemory LoadFault.OutOfMemory fault
             (table_fault table most text ≡ Some fault)) }
     {
@@ -117,7 +113,7 @@ impl LoadedTable {
         requires kind { kind_of column ≡ Kind.Number }
         ensures { result.now ≡ numbers_of column self.now.rows }
     {
-        match &self.columns[place_of(column)] {
+        match &self.columns[position_of(column)] {
             Column::Numbers(numbers) => numbers,
             Column::Texts(_) => unreachable!(),
         }
@@ -129,7 +125,7 @@ impl LoadedTable {
         requires kind { kind_of column ≡ Kind.Text }
         ensures { result.now ≡ texts_of column self.now.rows }
     {
-        match &self.columns[place_of(column)] {
+        match &self.columns[position_of(column)] {
             Column::Texts(texts) => texts,
             Column::Numbers(_) => unreachable!(),
         }

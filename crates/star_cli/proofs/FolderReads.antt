@@ -1,14 +1,9 @@
 -- The tables of a folder, as they are read.
-use Rattle.std.proofs.Common.{◌≡◌, ◌≤◌, ◌<◌, ◌+◌, ◌++◌, ◌∷◌, ◌∙◌, ℕ, List, [], Bool, true, false, Some, None, inl, inr, refl, sym, ap, subst, length, length-append, arith, append_assoc, append-nil}
-use Rattle.std.specs.Prelude.{◌⊎◌, Result, Ok, Err, IfOk, IfSome, Option, option_map}
-use Rattle.std.specs.{Borrow.Bor, Io.KnownBytes.Consumes, Io.KnownBytes.IsAtEnd}
-use Rattle.star_schema.specs.declared.table.TableId.TheVariants.{Date, Customer, Supplier, Part, Lineorder}
-use Rattle.star_schema.specs.{declared.table.TableId.TableId, Database.TableTexts, Most.most_rows}
+use Rattle.std.{proofs.Common.{◌≡◌, ◌≤◌, ◌<◌, ◌+◌, ◌++◌, ◌∷◌, ◌∙◌, ℕ, List, [], Bool, true, false, Some, None, inl, inr, refl, sym, ap, subst, length, length-append, arith, append_assoc, append-nil}, specs.Prelude.{◌⊎◌, Result, Ok, Err, IfOk, IfSome, Option, option_map}, specs.Borrow.Bor, specs.Io.KnownBytes.{Consumes, IsAtEnd}}
+use Rattle.star_schema.specs.{declared.table.TableId.TheVariants.{Date, Customer, Supplier, Part, Lineorder}, declared.table.TableId.TableId, Database.TableTexts, Most.most_rows}
 use Rattle.star_reader.specs.Partway.{HasRead, Reading}
 use Rattle.star_catalogue.specs.{Pieces.AreRead, declared.read_tables.ReadTables.ReadTables}
-use Rattle.star_cli.specs.Stores.{ArePartsFrom, AreTablesIn, IsAt, IsTableFile, IsTextIn, IsWhole, Known, part_name, path_in, table_name}
-use Rattle.star_cli.specs.Private.Reads.{AreAllRead, ArePartsFed, ArePartsUnread, GoesOnByParts, IsFed, IsLineorderFed, IsLineorderRead, IsLineorderUnread, IsReadIn, IsTableUnread}
-use Rattle.star_cli.specs.{declared.failure.Failure.Failure, ReadFolders.AreWidelyRead, ReadFolders.HasReadSome, FolderLoads.AreBefore, FolderLoads.AreTablesUnread, FolderLoads.IsThere}
+use Rattle.star_cli.specs.{Stores.{ArePartsFrom, AreTablesIn, IsAt, IsTableFile, IsTextIn, IsWhole, Known, part_name, path_in, table_name}, Private.Reads.{AreAllRead, ArePartsFed, ArePartsUnread, GoesOnByParts, IsFed, IsLineorderFed, IsLineorderRead, IsLineorderUnread, IsReadIn, IsTableUnread}, declared.failure.Failure.Failure, ReadFolders.{AreWidelyRead, HasReadSome}, FolderLoads.{AreBefore, AreTablesUnread, IsThere}}
 use Rattle.star_cli.specs.declared.failure.Failure.TheVariants as failures
 
 -- ---- one file
@@ -65,8 +60,8 @@ text_read known folder table text first last rows widest new is on =
     let was : HasRead first table most_rows [] [] = rw widest at new in
     (text, is, record { parts = text; left = []; read = on table most_rows [] was; whole = refl })
 
-pub whole_read : (known : Known) (folder : List ℕ) (table : TableId) (first last : Reading) (rows : ℕ)
-    → rows ≡ most_rows → HasRead first table rows [] []
+pub whole_read : (known : Known) (folder : List ℕ) (table : TableId) (first last : Reading)
+    (rows : ℕ) → rows ≡ most_rows → HasRead first table rows [] []
     → IsFed known (path_in folder (table_name table)) true first last
     → IsReadIn known folder table last
 whole_read known folder table first last rows widest new fed =
@@ -87,8 +82,8 @@ some_read known path table first last rows widest new fed =
 
 -- ---- the parts of lineorder
 
-pub one_more : (known : Known) (folder : List ℕ) (number : ℕ) (parts : List (List ℕ)) (bytes : List ℕ)
-    → ArePartsFrom known folder number parts
+pub one_more : (known : Known) (folder : List ℕ) (number : ℕ) (parts : List (List ℕ))
+    (bytes : List ℕ) → ArePartsFrom known folder number parts
     → IsTableFile known folder (part_name (number + length parts)) bytes
     → ArePartsFrom known folder number (parts ++ bytes ∷ [])
 one_more known folder number [] bytes are is =
@@ -108,7 +103,8 @@ goes_on a b c parts bytes first second = λ table most before h.
     (second table most (before ++ parts) (first table most before h))
 
 -- some parts have been read: those before this number
-pub record ArePartsBefore (known : Known) (folder : List ℕ) (number : ℕ) (old new : Reading) : Type 0
+pub record ArePartsBefore (known : Known) (folder : List ℕ) (number : ℕ)
+    (old new : Reading) : Type 0
   where
     pub parts : List (List ℕ)
     pub numbered : length parts + 1 ≡ number
@@ -150,7 +146,8 @@ parts_end known folder number old new before some few absent = (
     some = omega (arith, before.numbered);
     few = omega (arith, before.numbered);
     there = before.there;
-    no_more = subst (λ n. IsAt known (path_in folder (part_name n)) None) (sym before.numbered) absent;
+    no_more = subst (λ n. IsAt known (path_in folder (part_name n)) None)
+        (sym before.numbered) absent;
   },
   before.on,
 )
@@ -192,10 +189,10 @@ texts_of date customer supplier part lineorder Supplier = supplier
 texts_of date customer supplier part lineorder Part = part
 texts_of date customer supplier part lineorder Lineorder = lineorder
 
-tables_of : (known : Known) (folder : List ℕ) (date customer supplier part lineorder : List (List ℕ))
-    → IsTextIn known folder Date date → IsTextIn known folder Customer customer
-    → IsTextIn known folder Supplier supplier → IsTextIn known folder Part part
-    → IsTextIn known folder Lineorder lineorder
+tables_of : (known : Known) (folder : List ℕ)
+    (date customer supplier part lineorder : List (List ℕ)) → IsTextIn known folder Date date
+    → IsTextIn known folder Customer customer → IsTextIn known folder Supplier supplier
+    → IsTextIn known folder Part part → IsTextIn known folder Lineorder lineorder
     → AreTablesIn known folder (texts_of date customer supplier part lineorder)
 unfolding texts_of
 tables_of known folder date customer supplier part lineorder d c s p l Date = d

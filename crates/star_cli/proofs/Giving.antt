@@ -1,18 +1,10 @@
 -- What is answered to a task, by its steps.
-use Rattle.std.proofs.Common.{◌≡◌, ℕ, List, Bool, true, false, inl, refl, subst, sym}
-use Rattle.std.specs.Prelude.{◌↔◌, Result, Err, IfOk, IsTrue}
+use Rattle.std.{proofs.Common.{◌≡◌, ℕ, List, Bool, true, false, inl, refl, subst, sym}, specs.Prelude.{◌↔◌, Result, Err, IfOk, IsTrue}}
 use Rattle.star_schema.specs.{Database.TableTexts, Loadable.IsLoadable, Loadable.database_of, Most.most_rows, Most.most_visits, declared.limits.Limits.Limits}
 use Rattle.star_verify.specs.declared.refusal.Refusal.{Refusal}
-use Rattle.star_engine.specs.Queries.{IsExplained, IsQueryError, IsQueryQuote, IsQueryRun, IsQueryRunError}
-use Rattle.star_engine.specs.{Trials.IsTrialError, Trials.IsTrialReport, Private.TextSteps.IsQuoteOfTexts, Private.TextSteps.IsRunOfTexts, Private.TextSteps.IsRunErrorOfTexts}
-use Rattle.star_engine.specs.{declared.fault.EngineFault.EngineFault, declared.fault.EngineFault.TheVariants.Refused, declared.question.Question.Question, Answered.Change, Answered.IsAnswered, Answered.IsUntouched, Answered.OrMemory, Bench.AllFit, Bench.IsBench, Bench.IsBenchOver}
-use Rattle.star_engine.specs.{Executions.IsQuoteOf, Executions.IsRunError, Executions.IsRunOf, Listing.IsListing, Listing.IsListingOver, Loads.IsLoadError, Questions.Asks, QuoteTexts.IsQuoteError, QuoteTexts.IsQuoteText, QuoteTexts.is_program_file, WithNotes.IsAnsweredWithNotes, WithNotes.RunText}
-use Rattle.star_engine.proofs.RunTextLemmas.{never_refused, none, unloaded, unquoted_none, unquoted_tables}
-use Rattle.star_engine.proofs.{ByClauses.stopped, Loaded.answered_over, Noting.noted_stopped, QueryFaults.or_memory, Trials.no_trial_none, Trials.no_trial_unloaded}
-use Rattle.star_cli.specs.Answers.{IsBenched, IsGivenOf, IsListed, IsListedAndBenched, IsNoneRefused, IsOfTables, IsQuoted, none_refused}
-use Rattle.star_cli.specs.{Private.Asking.AsksFor, Private.Asking.IsNotAsked, declared.answers.Asked.Asked}
-use Rattle.star_words.specs.declared.request.Task.TheVariants.{Sample, Check, Bench, Query, Explain, Exec, Quote, Trial}
-use Rattle.star_words.specs.{declared.request.Task.Task}
+use Rattle.star_engine.{specs.Queries.{IsExplained, IsQueryError, IsQueryQuote, IsQueryRun, IsQueryRunError}, specs.Trials.{IsTrialError, IsTrialReport}, specs.Private.TextSteps.{IsQuoteOfTexts, IsRunOfTexts, IsRunErrorOfTexts}, specs.declared.fault.EngineFault.EngineFault, specs.declared.fault.EngineFault.TheVariants.Refused, specs.declared.question.Question.Question, specs.Answered.{Change, IsAnswered, IsUntouched, OrMemory}, specs.Bench.{AllFit, IsBench, IsBenchOver}, specs.Executions.{IsQuoteOf, IsRunError, IsRunOf}, specs.Listing.{IsListing, IsListingOver}, specs.Loads.IsLoadError, specs.Questions.Asks, specs.QuoteTexts.{IsQuoteError, IsQuoteText, is_program_file}, specs.WithNotes.{IsAnsweredWithNotes, RunText}, proofs.RunTextLemmas.{never_refused, none, unloaded, unquoted_none, unquoted_tables}, proofs.ByClauses.stopped, proofs.Loaded.answered_over, proofs.Noting.noted_stopped, proofs.QueryFaults.or_memory, proofs.Trials.{no_trial_none, no_trial_unloaded}}
+use Rattle.star_cli.specs.{Answers.{IsBenched, IsGivenOf, IsListed, IsListedAndBenched, IsNoneRefused, IsOfTables, IsQuoted, none_refused}, Private.Asking.{AsksFor, IsNotAsked}, declared.answers.Asked.Asked}
+use Rattle.star_words.specs.declared.request.Task.{TheVariants.{Sample, Check, Bench, Query, Explain, Exec, Quote, Trial}, Task}
 use Rattle.star_cli.specs.declared.answers.Asked.TheVariants as asked
 
 -- ---- a fault before anything is written
@@ -189,9 +181,8 @@ module _ {S N : Type 0} (out : Change S) (notes : Change N) (texts : TableTexts)
       (answer : Result (Unit {0}) EngineFault) → AsksFor task file (asked.Trial question given)
       → IsOfTables task → (Asks true file question
       → IsAnswered out (IsTrialReport most_rows texts file given.visits)
-      (IsTrialError most_rows texts file given.visits) answer)
-      → result ≡ none_refused answer → IsUntouched notes
-      → IsGivenOf task texts file out notes result
+      (IsTrialError most_rows texts file given.visits) answer) → result ≡ none_refused answer
+      → IsUntouched notes → IsGivenOf task texts file out notes result
   trial_given (Trial folder path limits) question given answer asks of_tables is whole still = (
     (
       answer,

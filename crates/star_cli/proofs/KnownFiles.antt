@@ -1,8 +1,6 @@
 -- What is known of files determines what is read.
-use Rattle.std.proofs.Common.{◌≡◌, ◌≢◌, ◌+◌, ◌∷◌, ◌∙◌, ℕ, List, [], Some, None, inl, inr, refl, sym, subst, length, arith}
-use Rattle.std.specs.Prelude.{IfSome, Option}
-use Rattle.star_schema.specs.declared.table.TableId.TheVariants.{Date, Customer, Supplier, Part, Lineorder}
-use Rattle.star_schema.specs.{declared.table.TableId.TableId, Database.TableTexts}
+use Rattle.std.{proofs.Common.{◌≡◌, ◌≢◌, ◌+◌, ◌∷◌, ◌∙◌, ℕ, List, [], Some, None, inl, inr, refl, sym, subst, length, arith}, specs.Prelude.{IfSome, Option}}
+use Rattle.star_schema.specs.{declared.table.TableId.TheVariants.{Date, Customer, Supplier, Part, Lineorder}, declared.table.TableId.TableId, Database.TableTexts}
 use Rattle.star_cli.specs.Stores.{AreParts, ArePartsFrom, AreTablesIn, IsAt, IsTextIn, IsWhole, Known, part_name, path_in}
 
 at_once : (it : Option (Option (List ℕ))) (one other : Option (List ℕ)) → it ≢ None

@@ -1,6 +1,5 @@
 -- What a load under the widest limits gives.
-use Rattle.std.proofs.Common.{◌≡◌, ℕ, List, ap, subst, sym}
-use Rattle.std.specs.Prelude.{Result, Ok, Err, IfErr, IfOk, MatchResult}
+use Rattle.std.{proofs.Common.{◌≡◌, ℕ, List, ap, subst, sym}, specs.Prelude.{Result, Ok, Err, IfErr, IfOk, MatchResult}}
 use Rattle.star_schema.specs.{declared.table.TableId.TheVariants.Lineorder, Database.TableTexts, Loadable.IsLoadable, Most.most_rows, Most.most_visits}
 use Rattle.star_reader.specs.Partway.{HasReadText, Reading}
 use Rattle.star_catalogue.specs.Pieces.{IsReadNextTo}

@@ -1,16 +1,9 @@
 -- The steps of a command.
-use Rattle.std.proofs.Common.{◌≡◌, subst, ℕ, List, [], Bool, true, false, Global, Some, None, inl, inr, refl}
-use Rattle.std.specs.Prelude.{Result, Ok, Err, MatchResult, Option}
-use Rattle.std.specs.Io.Buffered.{reader_buffer, reader_capacity, reader_inner, reader_remaining}
-use Rattle.std.specs.{Borrow.Bor, List.AllZip, Io.KnownBytes.prepend_known, declared.io.BufReader.BufReader}
+use Rattle.std.{proofs.Common.{◌≡◌, subst, ℕ, List, [], Bool, true, false, Global, Some, None, inl, inr, refl}, specs.Prelude.{Result, Ok, Err, MatchResult, Option}, specs.Io.Buffered.{reader_buffer, reader_capacity, reader_inner, reader_remaining}, specs.Borrow.Bor, specs.List.AllZip, specs.Io.KnownBytes.prepend_known, specs.declared.io.BufReader.BufReader}
 use Rattle.star_engine.specs.{Answered.Change, Answered.change, Loads.Loaded}
 use Rattle.star_service.specs.{Reports.AreAllJobsForecast, Reports.AreAllJobsRun, Sessions.IsSession, declared.reports.Halt.Halt, declared.reports.ReportJob.ReportJob}
 use Rattle.star_words.specs.{Requests.HasMostRows, declared.request.Reports.Reports, declared.request.Request.TheVariants.Answer, declared.request.Task.Task}
-use Rattle.star_cli.specs.Commands.{AreReportsDone, Input, IsErrandAt, IsFileOf, IsHeld, IsTaskUnread, folder_of, path_of, reports_made, reports_quoted}
-use Rattle.star_cli.specs.{Answers.IsOfTables, FolderLoads.AreTablesUnread, FolderLoads.IsLoadedFrom, Stores.Known, Private.Errands.IsErrandFor, Private.Errands.IsReadFrom, declared.commands.Read.Read, declared.jobs.ReadFile.ReadFile, declared.failure.Failure.Failure}
-use Rattle.star_cli.proofs.Zips.{zip_on}
-use Rattle.star_cli.specs.Private.Steps.{HasBoth, HasTables, IsKept, IsOneUnread, IsReadFor}
-use Rattle.star_cli.specs.{Failures.AreReportsEnded}
+use Rattle.star_cli.{specs.Commands.{AreReportsDone, Input, IsErrandAt, IsFileOf, IsHeld, IsTaskUnread, folder_of, path_of, reports_made, reports_quoted}, specs.Answers.IsOfTables, specs.FolderLoads.{AreTablesUnread, IsLoadedFrom}, specs.Stores.Known, specs.Private.Errands.{IsErrandFor, IsReadFrom}, specs.declared.commands.Read.Read, specs.declared.jobs.ReadFile.ReadFile, specs.declared.failure.Failure.Failure, proofs.Zips.zip_on, specs.Private.Steps.{HasBoth, HasTables, IsKept, IsOneUnread, IsReadFor}, specs.Failures.AreReportsEnded}
 
 -- ---- what is read for a task
 
@@ -54,10 +47,10 @@ module _ {S E : Type 0} (of_out : S → Option (List ℕ)) (out_failed : S → B
     (of_err : E → Option (List ℕ)) (err_failed : E → Bool) (out0 out1 out2 : S) (err0 err1 err2 : E)
     (same : out1 ≡ out0) (still : err1 ≡ err0) (status : ℕ) where
   pub held_after : (loaded : Loaded) (input : Input)
-      → IsHeld loaded input (change of_out out_failed out1 out2) (change of_err err_failed err1 err2)
-      status
-      → IsHeld loaded input (change of_out out_failed out0 out2) (change of_err err_failed err0 err2)
-      status
+      → IsHeld loaded input (change of_out out_failed out1 out2)
+      (change of_err err_failed err1 err2) status
+      → IsHeld loaded input (change of_out out_failed out0 out2)
+      (change of_err err_failed err0 err2) status
   held_after loaded input is =
       subst (λ o. IsHeld loaded input (change of_out out_failed o out2)
       (change of_err err_failed err0 err2) status) same
@@ -95,7 +88,8 @@ errand_at known path file job read is = record {
 }
 
 pub reports_by : {S E : Type 0} (K : Type 0) (out : Change S) (err : Change E) (status : ℕ)
-    (known : Known) (asked : Reports) (files : List ReadFile) (jobs : List ReportJob) (loaded : Loaded)
+    (known : Known) (asked : Reports) (files : List ReadFile) (jobs : List ReportJob)
+    (loaded : Loaded)
     (result : Result Bool Halt) (printed : S) (is_quote : Bool) → asked.is_quote ≡ is_quote
     → AllZip (IsReadFrom known) asked.files.items files → AllZip IsErrandFor files jobs
     → IsLoadedFrom known asked.folder.now loaded
@@ -107,11 +101,13 @@ pub reports_by : {S E : Type 0} (K : Type 0) (out : Change S) (err : Change E) (
 reports_by K out err status known asked files jobs loaded result printed true same read are from
     judged stored ended =
     reports_quoted jobs loaded result printed same
-    (zip_on (IsReadFrom known) IsErrandFor (IsErrandAt known) (errand_at known) asked.files.items files
+    (zip_on (IsReadFrom known) IsErrandFor (IsErrandAt known)
+    (errand_at known) asked.files.items files
     jobs read are) from (judged refl) ended
 reports_by K out err status known asked files jobs loaded result printed false same read are from
     judged stored ended =
     let (sink, delivered) = stored refl in
     reports_made jobs loaded sink result printed same
-    (zip_on (IsReadFrom known) IsErrandFor (IsErrandAt known) (errand_at known) asked.files.items files
+    (zip_on (IsReadFrom known) IsErrandFor (IsErrandAt known)
+    (errand_at known) asked.files.items files
     jobs read are) from delivered ended

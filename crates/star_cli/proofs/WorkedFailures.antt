@@ -1,20 +1,18 @@
 -- What keeps a command from its answer: the line of each failure, and its status. No other crate
 -- may name them.
-use Rattle.std.proofs.Common.{ℕ, List, [], ◌∷◌, Some, refl}
-use Rattle.std.specs.{Borrow.Bor, Fmt.digits, Prelude.◌++◌, Prelude.codes}
+use Rattle.std.{proofs.Common.{ℕ, List, [], ◌∷◌, Some, refl}, specs.Borrow.Bor, specs.Fmt.digits, specs.Prelude.{◌++◌, codes}}
 use Rattle.star_common.proofs.Tables.{Gives}
 use Rattle.star_words.specs.Faults.{words_fault_text}
 use Rattle.star_query.specs.{FaultTexts.query_fault_text, declared.fault.QueryFault.TheVariants.Unexpected}
 use Rattle.star_engine.specs.{FaultTexts.engine_fault_text, declared.fault.EngineFault.TheVariants.Query}
-use Rattle.star_cli.specs.declared.failure.Failure.TheVariants.{Words, File, Part, Unnamed, NamedTwice, OfFile, Unstored, Unwritten, OutOfMemory}
-use Rattle.star_cli.specs.{Failures.failure_of_file, Failures.failure_of_halt, Failures.failure_text, Failures.status_of}
+use Rattle.star_cli.specs.{declared.failure.Failure.TheVariants.{Words, File, Part, Unnamed, NamedTwice, OfFile, Unstored, Unwritten, OutOfMemory}, Failures.{failure_of_file, failure_of_halt, failure_text, status_of}}
 use Rattle.star_service.specs.Names.{printed_name}
 use Rattle.star_words.specs.declared.fault.WordsFault.TheVariants as words
 use Rattle.star_engine.specs.declared.fault.EngineFault.TheVariants as engine
 use Rattle.star_service.specs.declared.reports.Halt.TheVariants as halts
 
--- of words that ask for nothing, of files that can't be read and of reports that end before the last,
--- want of memory as any other
+-- of words that ask for nothing, of files that can't be read and of reports that end before the
+-- last, want of memory as any other
 module _ (name : Bor (List ℕ)) where
   lines : Gives failure_text (
       (Words words.NotText, Some (codes "error: a word is not UTF-8\n"))
@@ -38,7 +36,8 @@ module _ (name : Bor (List ℕ)) where
       )
       ∷ (Unstored name 10, Some (printed_name name.now ++ codes ": write 10\n"))
       ∷ (Unwritten 7, Some (codes "write 7\n")) ∷ []) × Gives status_of (
-      (Words words.NotText, 2) ∷ (Words words.OutOfMemory, 7) ∷ (Words words.EmptyFolder, 2) ∷ (Words words.NoCommand, 2)
+      (Words words.NotText, 2) ∷ (Words words.OutOfMemory, 7) ∷ (Words words.EmptyFolder, 2)
+      ∷ (Words words.NoCommand, 2)
       ∷ (File name, 6) ∷ (Part 2, 6) ∷ (OutOfMemory, 7) ∷ (Unnamed name, 2) ∷ (NamedTwice name, 2)
       ∷ (OfFile name (Query (Unexpected 20)), 4) ∷ (Unstored name 10, 6) ∷ (Unwritten 7, 6) ∷ [])
       × Gives (failure_of_file name) ((engine.OutOfMemory, OutOfMemory)

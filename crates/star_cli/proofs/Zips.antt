@@ -1,7 +1,5 @@
 -- Lists that are related item by item.
-use Rattle.std.proofs.Common.{◌≡◌, ◌+◌, ◌<◌, ◌≤◌, ◌++◌, ◌∷◌, ℕ, List, [], length, get_or, take, subst}
-use Rattle.std.specs.{List.AllZip, Borrow.Bor}
-use Rattle.std.proofs.{lemmas.List.Elements.Contains-get_or, lemmas.List.take_more, lemmas.List.take_all}
+use Rattle.std.{proofs.Common.{◌≡◌, ◌+◌, ◌<◌, ◌≤◌, ◌++◌, ◌∷◌, ℕ, List, [], length, get_or, take, subst}, specs.List.AllZip, specs.Borrow.Bor, proofs.lemmas.List.Elements.Contains-get_or, proofs.lemmas.List.{take_more, take_all}}
 use Rattle.star_cli.specs.{Commands.IsOneRefused, Commands.IsPathRefused, Stores.Known, declared.failure.Failure.Failure}
 
 pub none_zip : {A B : Type 0} (R : A → B → Type 0) (xs : List A) (ys : List B) → ys ≡ []

@@ -1,12 +1,9 @@
 -- What a task asks of the bytes that were read for it.
 use Rattle.std.specs.Prelude.{◌≡◌, ◌⊎◌, ◌↔◌, ℕ, Bool, true, false, IsTrue, List, Result, Ok, Err, IfOk}
 use Rattle.star_schema.specs.{declared.limits.Limits.Limits, Most.most_rows, Most.most_visits, Database.TableTexts, Loadable.database_of}
-use Rattle.star_engine.specs.Queries.{IsExplained, IsQueryError, IsQueryQuote, IsQueryRun, IsQueryRunError}
-use Rattle.star_engine.specs.{declared.fault.EngineFault.EngineFault, Answered.Change, Answered.IsAnswered, Answered.IsUntouched, Bench.AllFit, Bench.IsBench, Executions.IsQuoteOf, Executions.IsRunOf, Executions.IsRunError, Listing.IsListing, Loads.IsLoadError, WithNotes.IsAnsweredWithNotes}
-use Rattle.star_engine.specs.{QuoteTexts.IsQuoteError, QuoteTexts.IsQuoteText, Trials.IsTrialError, Trials.IsTrialReport}
+use Rattle.star_engine.specs.{Queries.{IsExplained, IsQueryError, IsQueryQuote, IsQueryRun, IsQueryRunError}, declared.fault.EngineFault.EngineFault, Answered.{Change, IsAnswered, IsUntouched}, Bench.{AllFit, IsBench}, Executions.{IsQuoteOf, IsRunOf, IsRunError}, Listing.IsListing, Loads.IsLoadError, WithNotes.IsAnsweredWithNotes, QuoteTexts.{IsQuoteError, IsQuoteText}, Trials.{IsTrialError, IsTrialReport}}
 use Rattle.star_service.specs.Lines.{IsFaultPrinted}
-use Rattle.star_words.specs.declared.request.Task.TheVariants.{Sample, Check, Bench, Query, Explain, Exec, Quote, Trial}
-use Rattle.star_words.specs.{declared.request.Task.Task}
+use Rattle.star_words.specs.declared.request.Task.{TheVariants.{Sample, Check, Bench, Query, Explain, Exec, Quote, Trial}, Task}
 
 -- the Ok of a call that refuses nothing by it
 abbrev pub none_refused : Result (Unit {0}) EngineFault → Result Bool EngineFault

@@ -1,14 +1,11 @@
 -- The program's handling of the arguments of its command line.
-use Rattle.std.specs.Prelude.{◌≡◌, ◌⊎◌, ℕ, Bool, true, false, List, [], Option, Some, None, Result, IfSome, codes, if◌then◌else◌}
-use Rattle.std.specs.{Borrow.Bor, List.AllZip, List.Contains, Path.path_file_stem}
+use Rattle.std.specs.{Prelude.{◌≡◌, ◌⊎◌, ℕ, Bool, true, false, List, [], Option, Some, None, Result, IfSome, codes, if◌then◌else◌}, Borrow.Bor, List.{AllZip, Contains}, Path.path_file_stem}
 use Rattle.star_schema.specs.Database.{TableTexts}
 use Rattle.star_engine.specs.{Answered.Change, Answered.OrMemory, Loads.Loaded, Questions.Asks, QuoteTexts.IsQuoteErrorOver, QuoteTexts.is_program_file, declared.question.Question.Question}
 use Rattle.star_service.specs.{Lines.IsTextPrinted, ReportSinks.SinkChange, Reports.AreAllJobsForecast, Reports.AreAllJobsRun, Sessions.IsSession, declared.reports.Halt.Halt, declared.reports.ReportJob.ReportJob}
 use Rattle.star_words.specs.{Requests.IsRequest, Requests.IsWordsFault, declared.fault.WordsFault.WordsFault, declared.request.Merge.Merge as MergeAsked, declared.request.Partials.Partials as PartialsAsked, declared.request.Reports.Reports as ReportsAsked, declared.request.Request.TheVariants.Answer, declared.request.Request.TheVariants.Merge, declared.request.Request.TheVariants.Partial, declared.request.Request.TheVariants.Reports, declared.request.Request.TheVariants.Session, declared.request.Task.Task}
 use Rattle.star_words.specs.declared.request.Task.TheVariants.{Sample, Check, Bench, Query, Explain, Exec, Quote, Trial}
-use Rattle.star_cli.specs.Failures.{AreReportsEnded, IsFailurePrinted, IsReadError}
-use Rattle.star_cli.specs.{Answers.IsExitOf, Stores.AreTablesIn, Stores.IsGivenFile, Stores.Known, FolderLoads.AreTablesUnread, FolderLoads.IsFolderRefused, FolderLoads.IsLoadedFrom, declared.failure.Failure.Failure}
-use Rattle.star_cli.specs.declared.failure.Failure.TheVariants.{NamedTwice, OfFile, OutOfMemory, Unnamed, Words}
+use Rattle.star_cli.specs.{Failures.{AreReportsEnded, IsFailurePrinted, IsReadError}, Answers.IsExitOf, Stores.{AreTablesIn, IsGivenFile, Known}, FolderLoads.{AreTablesUnread, IsFolderRefused, IsLoadedFrom}, declared.failure.Failure.Failure, declared.failure.Failure.TheVariants.{NamedTwice, OfFile, OutOfMemory, Unnamed, Words}}
 
 -- ---- a task
 
@@ -109,8 +106,8 @@ abbrev pub IsOneRefused : Known → (paths : List (Bor (List ℕ))) → Failure 
 IsOneRefused known paths failure =
     (path : Bor (List ℕ)) × Contains paths path × IsPathRefused known path failure
 
--- the reports of some files over some tables are kept by a `K`; or, for `--quote`, the forecasts of the
--- files are printed
+-- the reports of some files over some tables are kept by a `K`; or, for `--quote`, the forecasts of
+-- the files are printed
 pub data AreReportsDone {S E : Type 0} (K : Type 0) (known : Known) (asked : ReportsAsked)
     (out : Change S) (err : Change E) (status : ℕ) : Type 0 where
   reports_made : (jobs : List ReportJob) (loaded : Loaded) (sink : SinkChange K)

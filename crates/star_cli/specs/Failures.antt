@@ -1,11 +1,9 @@
 -- What keeps a command from an answer, its line, and its exit status.
-use Rattle.std.specs.Prelude.{◌≡◌, ◌==◌, ◌++◌, ◌⊎◌, ℕ, List, Bool, true, false, Option, Some, Result, Ok, Err, IfSome, codes, decimal, ⊤}
-use Rattle.std.specs.{Borrow.Bor}
+use Rattle.std.specs.{Prelude.{◌≡◌, ◌==◌, ◌++◌, ◌⊎◌, ℕ, List, Bool, true, false, Option, Some, Result, Ok, Err, IfSome, codes, decimal, ⊤}, Borrow.Bor}
 use Rattle.star_engine.specs.{Answered.Change, Answered.IsUntouched, FaultTexts.engine_fault_text, declared.fault.EngineFault.EngineFault}
 use Rattle.star_service.specs.{Lines.IsTextPrinted, Lines.fault_status, Names.printed_name, declared.reports.Halt.Halt}
 use Rattle.star_words.specs.Faults.{words_fault_status, words_fault_text}
-use Rattle.star_cli.specs.declared.failure.Failure.TheVariants.{Words, File, Part, Unnamed, NamedTwice, OfFile, Unstored, Unwritten, OutOfMemory}
-use Rattle.star_cli.specs.{declared.failure.Failure.Failure}
+use Rattle.star_cli.specs.declared.failure.Failure.{TheVariants.{Words, File, Part, Unnamed, NamedTwice, OfFile, Unstored, Unwritten, OutOfMemory}, Failure}
 use Rattle.star_engine.specs.declared.fault.EngineFault.TheVariants as engine
 use Rattle.star_service.specs.declared.reports.Halt.TheVariants as halts
 

@@ -1,7 +1,6 @@
 -- The tables of a folder are loaded, or the reason why not is printed.
 use Rattle.std.specs.Prelude.{◌≡◌, ◌⊎◌, ◌≤◌, ◌+◌, ⊤, ℕ, List, [], None, length}
-use Rattle.star_schema.specs.declared.table.TableId.TheVariants.{Date, Customer, Supplier, Part, Lineorder}
-use Rattle.star_schema.specs.{Most.most_rows, Most.most_visits, Database.TableTexts, Loadable.IsLoadable, declared.table.TableId.TableId}
+use Rattle.star_schema.specs.{declared.table.TableId.TheVariants.{Date, Customer, Supplier, Part, Lineorder}, Most.{most_rows, most_visits}, Database.TableTexts, Loadable.IsLoadable, declared.table.TableId.TableId}
 use Rattle.star_words.specs.declared.fault.WordsFault.TheVariants.{EmptyFolder}
 use Rattle.star_engine.specs.{declared.fault.EngineFault.EngineFault, Answered.Change, Answered.IsUntouched, Answered.OrMemory, Loads.IsLoadError, Loads.Loaded, Loads.loaded_of}
 use Rattle.star_service.specs.Lines.{IsFaultPrinted}

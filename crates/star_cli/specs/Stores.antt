@@ -1,7 +1,6 @@
 -- What is known of files, and the tables of a folder.
 use Rattle.std.specs.Prelude.{◌≡◌, ◌⊎◌, ◌≤◌, ◌<◌, ◌+◌, ◌++◌, ◌∷◌, ℕ, List, [], Option, Some, None, IfSome, codes, decimal, length, option_map, ⊤}
-use Rattle.star_schema.specs.declared.table.TableId.TheVariants.{Date, Customer, Supplier, Part, Lineorder}
-use Rattle.star_schema.specs.{Database.TableTexts, declared.table.TableId.TableId}
+use Rattle.star_schema.specs.{declared.table.TableId.TheVariants.{Date, Customer, Supplier, Part, Lineorder}, Database.TableTexts, declared.table.TableId.TableId}
 
 -- what is known to be at each path: a file with these bytes, or no file
 abbrev pub Known : Type 0

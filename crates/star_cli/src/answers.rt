@@ -3,8 +3,7 @@
 ghost use Rattle.std.specs.{Prelude.◌≡◌, Prelude.ℕ, Prelude.List, Prelude.MatchResult, Borrow.Bor};
 ghost use Rattle.star_schema.specs.{Database.TableTexts, Loadable.IsLoadable, Most.most_rows, Most.most_visits};
 ghost use Rattle.star_catalogue.specs.Pieces.{AreRead};
-ghost use Rattle.star_cli.specs.Answers.{IsEnded, IsExitOf, IsGivenOf, IsListedAndBenched, IsOfTables};
-ghost use Rattle.star_cli.specs.{Private.Asking.AsksFor, Private.Asking.IsNotAsked, ReadFolders.AreWidelyRead};
+ghost use Rattle.star_cli.specs.{Answers.{IsEnded, IsExitOf, IsGivenOf, IsListedAndBenched, IsOfTables}, Private.Asking.{AsksFor, IsNotAsked}, ReadFolders.AreWidelyRead};
 ghost use Rattle.star_engine.specs.{Answered.OrMemory, Answered.change, Loads.loaded_of};
 ghost use Rattle.star_words.specs.{declared.request.Task.Task, declared.request.Task.TheVariants.Explain};
 ghost use Rattle.star_cli.specs.Answers as spec;

@@ -1,14 +1,11 @@
 // The commands of the program.
 
-ghost use Rattle.std.specs.Prelude.{◌≡◌, ◌⊎◌, true, false, IfErr, IfOk, MatchResult, map, string_bytes};
-ghost use Rattle.std.specs.List.{AllZip};
+ghost use Rattle.std.specs.{Prelude.{◌≡◌, ◌⊎◌, true, false, IfErr, IfOk, MatchResult, map, string_bytes}, List.AllZip};
 ghost use Rattle.star_schema.specs.Database.{TableTexts};
 ghost use Rattle.star_words.specs.{Requests.HasMostRows, declared.request.Request.TheVariants.Answer};
 ghost use Rattle.star_engine.specs.Answered.{change};
 ghost use Rattle.star_service.specs.Reports.{AreAllJobsForecast, AreAllJobsRun};
-ghost use Rattle.star_cli.specs.Commands.{AreReportsDone, IsCommandDone, IsHeld, IsOneRefused, IsSessionDone, IsTaskDone, IsTaskUnread};
-ghost use Rattle.star_cli.specs.Private.Steps.{AreTablesFor, HasBoth, HasTables, IsKept, IsOneUnread, IsReadFor};
-ghost use Rattle.star_cli.specs.{Private.Errands.IsReadFrom, Answers.IsExitOf, Failures.IsReadError, FolderLoads.AreTablesUnread, FolderLoads.IsLoadedFrom, declared.directory.Directory.Directory};
+ghost use Rattle.star_cli.specs.{Commands.{AreReportsDone, IsCommandDone, IsHeld, IsOneRefused, IsSessionDone, IsTaskDone, IsTaskUnread}, Private.Steps.{AreTablesFor, HasBoth, HasTables, IsKept, IsOneUnread, IsReadFor}, Private.Errands.IsReadFrom, Answers.IsExitOf, Failures.IsReadError, FolderLoads.{AreTablesUnread, IsLoadedFrom}, declared.directory.Directory.Directory};
 ghost use Rattle.star_cli.specs.Commands as spec;
 
 use crate::answers::{answer, explain};

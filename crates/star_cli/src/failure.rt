@@ -3,8 +3,7 @@
 ghost use Rattle.std.specs.Prelude.{◌≡◌, ◌==◌, IfOk, string_bytes};
 ghost use Rattle.star_common.specs.Memory.{TellsMemory};
 ghost use Rattle.star_engine.specs.Answered.{change};
-ghost use Rattle.star_cli.specs.Failures.{AreReportsEnded, IsFailurePrinted, IsPrintedOn, IsTextOf, failure_of_file, failure_of_halt, failure_text, status_of};
-ghost use Rattle.star_cli.specs.declared.failure.Failure.TheVariants.{OutOfMemory};
+ghost use Rattle.star_cli.specs.{Failures.{AreReportsEnded, IsFailurePrinted, IsPrintedOn, IsTextOf, failure_of_file, failure_of_halt, failure_text, status_of}, declared.failure.Failure.TheVariants.OutOfMemory};
 
 use star_common::Sink;
 use star_engine::{EngineFault, FaultLine};

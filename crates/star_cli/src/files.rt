@@ -2,9 +2,7 @@
 
 ghost use Rattle.std.specs.Prelude.{◌≡◌, ◌≤◌, ◌⊎◌, None, IfErr, IfOk, IfSome, OnOk, option_map, string_bytes, vec_len};
 ghost use Rattle.star_schema.specs.declared.table.TableId.{TableId};
-ghost use Rattle.star_cli.specs.Private.Reads.{AreAllRead, ArePartsFed, ArePartsUnread, IsFed, IsLineorderFed, IsLineorderRead, IsLineorderUnread, IsReadIn, IsTableUnread, failure_named, name_of};
-ghost use Rattle.star_cli.specs.Stores.{IsAt, IsFile, IsGivenFile, part_name, path_in, table_name};
-ghost use Rattle.star_cli.specs.{Failures.IsReadError, FolderLoads.AreTablesUnread, ReadFolders.AreReadIn, ReadFolders.AreWidelyRead, ReadFolders.HasReadSome, declared.failure.Failure.TheVariants.OutOfMemory, declared.failure.Failure.TheVariants.Part};
+ghost use Rattle.star_cli.specs.{Private.Reads.{AreAllRead, ArePartsFed, ArePartsUnread, IsFed, IsLineorderFed, IsLineorderRead, IsLineorderUnread, IsReadIn, IsTableUnread, failure_named, name_of}, Stores.{IsAt, IsFile, IsGivenFile, part_name, path_in, table_name}, Failures.IsReadError, FolderLoads.AreTablesUnread, ReadFolders.{AreReadIn, AreWidelyRead, HasReadSome}, declared.failure.Failure.TheVariants.{OutOfMemory, Part}};
 
 use crate::failure::Failure;
 use crate::progress::{TableFile, Watch, Watched};
@@ -194,8 +192,7 @@ fn read_table<R: Store + AllocGlobal, P: Watch>(
     table: TableId,
     progress: &mut P,
 ) -> Result<Box<TableReader>, Failure<'static>>
-    ensures read { IfOk result
-        (λ reader. IsReadIn (R.known rt.now) folder.now table reader.value) }
+    ensures read { IfOk result (λ reader. IsReadIn (R.known rt.now) folder.now table reader.value) }
     ensures unread { IfErr result (IsTableUnread table) }
 {
     let name = file_name(table);

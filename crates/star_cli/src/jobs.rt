@@ -1,9 +1,7 @@
 // The files of reports: each with the name of its report, read and checked before any table.
 
-ghost use Rattle.std.specs.Prelude.{◌≡◌, ◌++◌, ◌∷◌, [], IfErr, IfOk, OnOk};
-ghost use Rattle.std.specs.{List.AllZip, Option.option_copied, Path.path_file_stem};
-ghost use Rattle.star_cli.specs.{Commands.IsOneRefused, Commands.IsPathRefused, Stores.Known};
-ghost use Rattle.star_cli.specs.Private.Errands.{IsErrandFor, IsReadFrom};
+ghost use Rattle.std.specs.{Prelude.{◌≡◌, ◌++◌, ◌∷◌, [], IfErr, IfOk, OnOk}, List.AllZip, Option.option_copied, Path.path_file_stem};
+ghost use Rattle.star_cli.specs.{Commands.{IsOneRefused, IsPathRefused}, Stores.Known, Private.Errands.{IsErrandFor, IsReadFrom}};
 
 use crate::failure::Failure;
 use crate::files::read_file;

@@ -137,9 +137,9 @@ fn read_partials<'a, R: Store + AllocGlobal>(
     Ok(partials)
 }
 
-// The name of the file at a place.
-fn name_at<'a>(paths: &[&'a str], place: usize) -> &'a str {
-    match paths.get(place) {
+// The name of the file at a position.
+fn name_at<'a>(paths: &[&'a str], index: usize) -> &'a str {
+    match paths.get(index) {
         Some(path) => path,
         None => "",
     }
@@ -150,7 +150,7 @@ fn fault_of_merge<'a>(paths: &[&'a str], fault: PartialsFault) -> Undone<'a> {
     match fault {
         PartialsFault::Engine(fault) => Undone::Fault(fault),
         PartialsFault::Partial {
-            place,
+            index,
             fault,
             other,
         } => {
@@ -158,7 +158,7 @@ fn fault_of_merge<'a>(paths: &[&'a str], fault: PartialsFault) -> Undone<'a> {
                 Some(other) => Some(name_at(paths, other)),
                 None => None,
             };
-            Undone::of_partial(name_at(paths, place), fault, other)
+            Undone::of_partial(name_at(paths, index), fault, other)
         }
     }
 }

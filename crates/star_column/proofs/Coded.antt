@@ -1,27 +1,24 @@
 -- A column of texts as the column of its codes.
-use Rattle.std.proofs.Common.{◌≡◌, ℕ, ℤ, pos, ◌-◌, ◌-ℤ◌, ◌<◌, ◌≤ℤ◌, List, [], ◌∷◌, Some, length, get_or, refl, sym, ap, ◌∙◌, arith}
-use Rattle.std.proofs.{lemmas.Int.ints, lemmas.List.get_or-map, lemmas.List.length-map, lemmas.List.Elements.All-map, lemmas.List.Elements.Contains-get_or, lemmas.Option.slice_get-map, lemmas.Option.slice_get-get_or}
-use Rattle.std.specs.{List.All, List.Contains, List.slice_get, Option.option_map, Int.RustNames.unsigned_abs}
-use Rattle.star_schema.specs.{Bounds.least, Bounds.greatest, Dictionary.dictionary_of, Dictionary.codes_of, Dictionary.low_in}
+use Rattle.std.{proofs.Common.{◌≡◌, ℕ, ℤ, pos, ◌-◌, ◌-ℤ◌, ◌<◌, ◌≤ℤ◌, List, [], ◌∷◌, Some, length, get_or, refl, sym, ap, ◌∙◌, arith}, proofs.lemmas.Int.ints, proofs.lemmas.List.{get_or-map, length-map}, proofs.lemmas.List.Elements.{All-map, Contains-get_or}, proofs.lemmas.Option.{slice_get-map, slice_get-get_or}, specs.List.{All, Contains, slice_get}, specs.Option.option_map, specs.Int.RustNames.unsigned_abs}
+use Rattle.star_schema.{specs.Bounds.{least, greatest}, specs.Dictionary.{dictionary_of, codes_of, low_in}, proofs.Dictionaries.IsDictionary-dictionary_of, proofs.Extremes.{least_is, greatest_is}, proofs.TextIndexes.{code_within, low_in-index}}
 use Rattle.star_column.specs.Width.{bits_of, least_width}
-use Rattle.star_schema.proofs.{Dictionaries.IsDictionary-dictionary_of, Extremes.least_is, Extremes.greatest_is, TextPlaces.code_within, TextPlaces.low_in-place}
 use Rattle.star_common.proofs.Members.{contains_here}
 
 module _ (texts : List (List ℕ)) where
-  -- the code of a row whose text stands at a place of the dictionary is that place
+  -- the code of a row whose text stands at a position of the dictionary is that position
   pub slice_get-codes_of : (row code : ℕ)
       → slice_get (dictionary_of texts) code ≡ slice_get texts row
       → code < length (dictionary_of texts) → slice_get (codes_of texts) row ≡ Some (pos code)
   slice_get-codes_of row code stands within =
       let ds = dictionary_of texts in
       let there = slice_get-get_or ds code [] within in
-      let place = low_in-place ds (IsDictionary-dictionary_of texts).sorted code
+      let index = low_in-index ds (IsDictionary-dictionary_of texts).sorted code
       (get_or ds code []) there in
       slice_get-map (λ text. pos (low_in ds text)) texts row
       ∙ ap (option_map (λ text. pos (low_in ds text))) (sym stands ∙ there)
-      ∙ ap (λ n. Some (pos n)) place
+      ∙ ap (λ n. Some (pos n)) index
 
-  -- each place of the dictionary is the code of some row
+  -- each position of the dictionary is the code of some row
   code_used : (n : ℕ) → n < length (dictionary_of texts) → Contains (codes_of texts) (pos n)
   code_used n h =
       let ds = dictionary_of texts in
@@ -31,7 +28,7 @@ module _ (texts : List (List ℕ)) where
       let code : get_or (codes_of texts) there.0 (pos n) ≡ pos n =
       get_or-map (λ text. pos (low_in ds text)) texts there.0 d (pos n) there.1
       ∙ ap (λ text. pos (low_in ds text)) there.2
-      ∙ ap pos (low_in-place ds made.sorted n d (slice_get-get_or ds n [] h)) in
+      ∙ ap pos (low_in-index ds made.sorted n d (slice_get-get_or ds n [] h)) in
       (there.0, rw length-map there.1, code)
 
   above_codes : (z : ℤ) → ((n : ℕ) → n < length (dictionary_of texts) → pos n ≤ℤ z)

@@ -1,11 +1,7 @@
 -- Numbers as how far they lie above the least.
-use Rattle.std.proofs.Common.{◌≡◌, ℕ, ◌+◌, ◌^◌, ◌<◌, ◌≤◌, ◌≤ℤ◌, ℤ, pos, ◌+ℤ◌, ◌-ℤ◌, List, [], ◌∷◌, ◌++◌, Some, drop, get_or, length, map, set, take, ap, ◌∙◌, sym, arith}
-use Rattle.std.proofs.lemmas.List.{drop_more, length-map, map-append, take_more, take_more_set}
-use Rattle.std.proofs.{lemmas.Bool.Decides.nat_tests, lemmas.Int.ints, lemmas.Option.slice_get-map}
-use Rattle.std.specs.{Int.RustNames.unsigned_abs, List.All, List.slice_get, Option.option_map}
+use Rattle.std.{proofs.Common.{◌≡◌, ℕ, ◌+◌, ◌^◌, ◌<◌, ◌≤◌, ◌≤ℤ◌, ℤ, pos, ◌+ℤ◌, ◌-ℤ◌, List, [], ◌∷◌, ◌++◌, Some, drop, get_or, length, map, set, take, ap, ◌∙◌, sym, arith}, proofs.lemmas.List.{drop_more, length-map, map-append, take_more, take_more_set}, proofs.lemmas.Bool.Decides.nat_tests, proofs.lemmas.Int.ints, proofs.lemmas.Option.slice_get-map, specs.Int.RustNames.unsigned_abs, specs.List.{All, slice_get}, specs.Option.option_map}
 use Rattle.star_interval.specs.{declared.Interval.Interval, Interval.range_of, Range.Holds}
-use Rattle.star_column.specs.{Width.bits_of, Width.least_width, Private.Bounds.AreBounds, Private.Words.numbers_above, Private.Words.numbers_in, Private.Words.word_bits, Private.Words.IsPacked, declared.words.Words.Words}
-use Rattle.star_column.proofs.Extremes.{all_between}
+use Rattle.star_column.{specs.Width.{bits_of, least_width}, specs.Private.Bounds.AreBounds, specs.Private.Words.{numbers_above, numbers_in, word_bits, IsPacked}, specs.declared.words.Words.Words, proofs.Extremes.all_between}
 
 -- ---- widths
 pub width_8 : (n : ℕ) → n < 2 ^ 8 → 8 ≡ least_width n
@@ -55,7 +51,7 @@ are_packed bounds words ns few are is width =
           ∙ (λ i. least_width (unsigned_abs (are.high i -ℤ are.low i))));
     }
 
--- where the elements from a place on are the same, so is the one there
+-- where the elements from a position on are the same, so is the one there
 pub later_one : {S : Type 0} (words old : List S) (i : ℕ) (d : S) → i < length old
     → length words ≡ length old → drop i words ≡ drop i old
     → (get_or words i d ≡ get_or old i d) × (drop (i + 1) words ≡ drop (i + 1) old)
@@ -73,7 +69,8 @@ pub subtracted : {S : Type 0} (number : S → ℤ) (distance : S → ℕ) (low :
     ≡ map number (take (i + 1) old)
 subtracted {S} number distance low words old i d w within long so_far above is =
     let one : low +ℤ pos (distance w) ≡ number (get_or old i d) = rw is (omega (arith, ints)) in
-    ap (λ (xs : List S). numbers_above low (map distance xs)) (take_more_set words i w (omega (arith, within, long)))
+    ap (λ (xs : List S). numbers_above low (map distance xs))
+    (take_more_set words i w (omega (arith, within, long)))
     ∙ ap (numbers_above low) (map-append distance (take i words) (w ∷ []))
     ∙ map-append (λ n. low +ℤ pos n) (map distance (take i words)) (distance w ∷ [])
     ∙ (λ j. so_far j ++ one j ∷ [])

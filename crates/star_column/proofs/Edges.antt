@@ -1,8 +1,6 @@
 -- The texts that stand before an edge of a text are the first ones of a dictionary.
-use Rattle.std.proofs.Common.{ℕ, List, refl}
-use Rattle.std.specs.List.Sorted.{IsPartitionedBy, IsStrictlySortedBy}
-use Rattle.star_schema.specs.Dictionary.{text_cmp}
-use Rattle.star_schema.proofs.Edges.{partitioned}
+use Rattle.std.{proofs.Common.{ℕ, List, refl}, specs.List.Sorted.{IsPartitionedBy, IsStrictlySortedBy}}
+use Rattle.star_schema.{specs.Dictionary.text_cmp, proofs.Edges.partitioned}
 use Rattle.star_column.specs.{Private.Edge.is_after, declared.dictionary.Edge.Edge, declared.dictionary.Edge.TheVariants.Low, declared.dictionary.Edge.TheVariants.High}
 
 pub IsPartitionedBy-is_after : (edge : Edge) (t : List ℕ) (ds : List (List ℕ))

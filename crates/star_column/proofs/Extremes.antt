@@ -1,10 +1,7 @@
 -- The numbers of a column lie between its bounds.
-use Rattle.std.proofs.Common.{◌≡◌, ◌≤ℤ◌, ℤ, List, false, map, arith}
-use Rattle.std.proofs.{Math.ListN.get_or-map, lemmas.List.length-map, lemmas.Cmp.int_ranked, lemmas.List.Elements.All-map, lemmas.List.Elements.All-weaker}
-use Rattle.std.specs.{List.All, List.Contains, Ordering.int_cmp, Ordering.is_gt, Ordering.is_lt, declared.cmp.Ordering.Ordering}
+use Rattle.std.{proofs.Common.{◌≡◌, ◌≤ℤ◌, ℤ, List, false, map, arith}, proofs.Math.ListN.get_or-map, proofs.lemmas.List.length-map, proofs.lemmas.Cmp.int_ranked, proofs.lemmas.List.Elements.{All-map, All-weaker}, specs.List.{All, Contains}, specs.Ordering.{int_cmp, is_gt, is_lt}, specs.declared.cmp.Ordering.Ordering}
 use Rattle.star_common.proofs.Members.{contains_mapped}
-use Rattle.star_schema.specs.Bounds.{least, greatest}
-use Rattle.star_schema.proofs.Extremes.{least_below, greatest_above, greatest_is, least_is}
+use Rattle.star_schema.{specs.Bounds.{least, greatest}, proofs.Extremes.{least_below, greatest_above, greatest_is, least_is}}
 use Rattle.star_interval.specs.Range.{Range, Holds}
 
 pub all_between : (r : Range) (zs : List ℤ) → r.low ≡ least zs → r.high ≡ greatest zs

@@ -1,7 +1,5 @@
 -- The search by halves for the end of the front of a list that passes a test.
-use Rattle.std.proofs.Common.{◌≡◌, ℕ, ◌+◌, ◌<◌, ◌≤◌, Bool, true, false, List, Some, length, get_or, count_by, sym, ap, ◌∙◌, arith, nat_lt, ⊎_elim, true≢false}
-use Rattle.std.proofs.{lemmas.Bool.cases_lt, lemmas.List.Sums.count_by-le-length, lemmas.Option.get_or_from_slice_get}
-use Rattle.std.specs.{List.slice_get, List.Sorted.IsPartitionedBy}
+use Rattle.std.{proofs.Common.{◌≡◌, ℕ, ◌+◌, ◌<◌, ◌≤◌, Bool, true, false, List, Some, length, get_or, count_by, sym, ap, ◌∙◌, arith, nat_lt, ⊎_elim, true≢false}, proofs.lemmas.Bool.cases_lt, proofs.lemmas.List.Sums.count_by-le-length, proofs.lemmas.Option.get_or_from_slice_get, specs.List.slice_get, specs.List.Sorted.IsPartitionedBy}
 use Rattle.star_schema.proofs.Fronts.{fails_from, nat_lt-count_by}
 
 -- the elements before `low` pass, and those from `high` on fail
@@ -12,7 +10,7 @@ pub record Found {X : Type 0} (p : X → Bool) (xs : List X) (low high : ℕ) : 
   pub fails : (k : ℕ) (d : X) → high ≤ k → k < length xs → p (get_or xs k d) ≡ false
 
 module _ {X : Type 0} (p : X → Bool) (xs : List X) where
-  -- the test at a place, of the element that was read there
+  -- the test at a position, of the element that was read there
   pub test_at : (i : ℕ) (x : X) (b : Bool) → slice_get xs i ≡ Some x → p x ≡ b
       → (d : X) → p (get_or xs i d) ≡ b
   test_at i x b read e d = ap p (get_or_from_slice_get xs i x d read) ∙ e

@@ -1,7 +1,5 @@
 -- The lowest bit of a mask that is set, taken away, and what is kept of it.
-use Rattle.std.proofs.Common.{◌≡◌, ℕ, zero, suc, ◌+◌, ◌*◌, ◌-◌, ◌/◌, ◌%◌, ◌^◌, ◌<◌, ◌≤◌, Bool, false, cond, List, length, get_or, map, refl, sym, ap, ◌∙◌, arith}
-use Rattle.std.proofs.{Math.Nat.mod-eq_of_lt, Math.Nat.mul_assoc, Math.Nat.pow-suc, lemmas.List.get_or-map, lemmas.Nat.and_block, lemmas.Nat.and_le_l, lemmas.Nat.shr-shr, lemmas.Simd.bit_mask_l, lemmas.Simd.get_or-chunk, lemmas.Simd.length-chunk}
-use Rattle.std.specs.{Prelude.bit_and, Int.Count.count_trailing_zeros, Int.Count.under, Int.Bits.and_self}
+use Rattle.std.{proofs.Common.{◌≡◌, ℕ, zero, suc, ◌+◌, ◌*◌, ◌-◌, ◌/◌, ◌%◌, ◌^◌, ◌<◌, ◌≤◌, Bool, false, cond, List, length, get_or, map, refl, sym, ap, ◌∙◌, arith}, proofs.Math.Nat.{mod-eq_of_lt, mul_assoc, pow-suc}, proofs.lemmas.List.get_or-map, proofs.lemmas.Nat.{and_block, and_le_l, shr-shr}, proofs.lemmas.Simd.{bit_mask_l, get_or-chunk, length-chunk}, specs.Prelude.bit_and, specs.Int.Count.{count_trailing_zeros, under}, specs.Int.Bits.and_self}
 use lib.Lanes.{chunk}
 use Rattle.star_column.specs.Masks.{mask_of}
 
@@ -109,8 +107,8 @@ lowest (suc k) left mask some small =
 
 module _ {A : Type 0} (p : A → Bool) (xs : List A) (first left : ℕ) (d : A)
     (room : first + 64 ≤ length xs) (some : 0 < left) (small : left < 2 ^ 64) where
-  abbrev place : ℕ
-  place = count_trailing_zeros 64 left
+  abbrev index : ℕ
+  index = count_trailing_zeros 64 left
 
   abbrev mask : ℕ
   mask = mask_of p xs first
@@ -118,25 +116,25 @@ module _ {A : Type 0} (p : A → Bool) (xs : List A) (first left : ℕ) (d : A)
   there : IsLowest 64 left mask
   there = lowest 64 left mask some small
 
-  bit_is : mask / 2 ^ place % 2 ≡ cond (p (get_or xs (first + place) d)) 1 0
+  bit_is : mask / 2 ^ index % 2 ≡ cond (p (get_or xs (first + index) d)) 1 0
   bit_is =
       let long = length-chunk first 64 xs room in
-      bit_mask_l (map p (chunk first 64 xs)) place
+      bit_mask_l (map p (chunk first 64 xs)) index
       ∙ ap (λ b. cond b 1 0)
-      (get_or-map p (chunk first 64 xs) place d false (omega (arith, long, there.within))
-      ∙ ap p (get_or-chunk first 64 xs place d there.within))
+      (get_or-map p (chunk first 64 xs) index d false (omega (arith, long, there.within))
+      ∙ ap p (get_or-chunk first 64 xs index d there.within))
 
   module _ (bitmap kept one : ℕ) (fits : bitmap < 2 ^ 64)
-      (is : one ≡ cond (p (get_or xs (first + place) d)) 1 0)
+      (is : one ≡ cond (p (get_or xs (first + index) d)) 1 0)
       (so_far : bit_and left mask + kept ≡ bit_and bitmap mask) where
-    added : one * 2 ^ place % 2 ^ 64 ≡ mask / 2 ^ place % 2 * 2 ^ place
+    added : one * 2 ^ index % 2 ^ 64 ≡ mask / 2 ^ index % 2 * 2 ^ index
     added =
-        ap (λ b. b * 2 ^ place % 2 ^ 64) (is ∙ sym bit_is)
+        ap (λ b. b * 2 ^ index % 2 ^ 64) (is ∙ sym bit_is)
         ∙ mod-eq_of_lt (omega (arith, there.parted, and_le_l left mask, small))
 
-    pub kept_fits : kept + one * 2 ^ place % 2 ^ 64 < 2 ^ 64
+    pub kept_fits : kept + one * 2 ^ index % 2 ^ 64 < 2 ^ 64
     kept_fits = omega (arith, added, there.parted, so_far, and_le_l bitmap mask, fits)
 
-    pub kept_more : bit_and (bit_and left (left - 1)) mask + (kept + one * 2 ^ place % 2 ^ 64)
+    pub kept_more : bit_and (bit_and left (left - 1)) mask + (kept + one * 2 ^ index % 2 ^ 64)
         ≡ bit_and bitmap mask
     kept_more = omega (arith, added, there.parted, so_far)

@@ -1,16 +1,13 @@
--- The texts of rows, coded by their places in the dictionary.
-use Rattle.std.proofs.Common.{◌≡◌, ℕ, ◌-◌, ◌^◌, ◌<◌, List, [], Some, length, get_or, sym, ap, ◌∙◌, arith, subst}
-use Rattle.std.proofs.{lemmas.List.get_or_default, lemmas.List.length-map, lemmas.List.Elements.All-contains, lemmas.List.Elements.Contains-get_or, lemmas.Option.get_or_from_slice_get, lemmas.Option.slice_get-get_or, lemmas.Option.slice_get-map, lemmas.Option.slice_get_within}
-use Rattle.std.specs.{List.Contains, List.slice_get, List.Sorted.IsStrictlySortedBy, Option.option_map}
+-- The texts of rows, coded by their positions in the dictionary.
+use Rattle.std.{proofs.Common.{◌≡◌, ℕ, ◌-◌, ◌^◌, ◌<◌, List, [], Some, length, get_or, sym, ap, ◌∙◌, arith, subst}, proofs.lemmas.List.{get_or_default, length-map}, proofs.lemmas.List.Elements.{All-contains, Contains-get_or}, proofs.lemmas.Option.{get_or_from_slice_get, slice_get-get_or, slice_get-map, slice_get_within}, specs.List.{Contains, slice_get}, specs.List.Sorted.IsStrictlySortedBy, specs.Option.option_map}
 use Rattle.star_common.proofs.Members.{contains_mapped, from_contains_map}
-use Rattle.star_flat.specs.Repeated.{AreRepeated, texts_at_places}
-use Rattle.star_schema.specs.Dictionary.{codes_of, dictionary_of, text_cmp}
-use Rattle.star_schema.proofs.Dictionaries.{one_dictionary}
-use Rattle.star_column.specs.{Private.Codes.AreCodes, Width.bits_of, Width.least_width}
-use Rattle.star_column.proofs.Coded.{least_width-codes_of}
+use Rattle.star_flat.specs.Repeated.{AreRepeated, texts_at_indexes}
+use Rattle.star_schema.{specs.Dictionary.{codes_of, dictionary_of, text_cmp}, proofs.Dictionaries.one_dictionary}
+use Rattle.star_column.{specs.Private.Codes.AreCodes, specs.Width.{bits_of, least_width}, proofs.Coded.least_width-codes_of}
 
 -- ---- the codes of all rows
-module _ (ds : List (List ℕ)) (ns : List ℕ) (ts : List (List ℕ)) (same : texts_at_places ds ns ≡ ts)
+module _ (ds : List (List ℕ)) (ns : List ℕ) (ts : List (List ℕ))
+    (same : texts_at_indexes ds ns ≡ ts)
     (numbered : AreRepeated ds ns) where
   -- each of the texts is among the different ones
   all_met : (t : List ℕ) → Contains ts t → Contains ds t
@@ -24,11 +21,12 @@ module _ (ds : List (List ℕ)) (ns : List ℕ) (ts : List (List ℕ)) (same : t
   met : (t : List ℕ) → Contains ds t → Contains ts t
   met t h =
       subst (λ xs. Contains xs t) same
-      (subst (λ x. Contains (texts_at_places ds ns) x) (get_or_default ds h.0 [] t h.1 ∙ h.2)
+      (subst (λ x. Contains (texts_at_indexes ds ns) x) (get_or_default ds h.0 [] t h.1 ∙ h.2)
       (contains_mapped (λ n. get_or ds n []) ns h.0 (numbered.met h.0 h.1)))
 
 -- what a column keeps, as its parts were built
-module _ (ds : List (List ℕ)) (ns : List ℕ) (ts : List (List ℕ)) (same : texts_at_places ds ns ≡ ts)
+module _ (ds : List (List ℕ)) (ns : List ℕ) (ts : List (List ℕ))
+    (same : texts_at_indexes ds ns ≡ ts)
     (numbered : AreRepeated ds ns) (sorted : IsStrictlySortedBy text_cmp ds)
     (few : length ts < 2 ^ 32) where
   -- different texts in order are the dictionary of the texts that they are numbered for
@@ -39,7 +37,7 @@ module _ (ds : List (List ℕ)) (ns : List ℕ) (ts : List (List ℕ)) (same : t
   })
 
   module _ (codes : List ℕ) (read : codes ≡ ns) where
-    pub coded_column : AreCodes ds codes × (texts_at_places ds codes ≡ ts)
+    pub coded_column : AreCodes ds codes × (texts_at_indexes ds codes ≡ ts)
     coded_column = rw read (
       record {
         few = let same_length : length ns ≡ length ts =
@@ -52,20 +50,20 @@ module _ (ds : List (List ℕ)) (ns : List ℕ) (ts : List (List ℕ)) (same : t
     )
 
     pub width_of_column : (width entries : ℕ) → entries ≡ length ds
-        → width ≡ least_width (entries - 1) → width ≡ bits_of (codes_of (texts_at_places ds codes))
+        → width ≡ least_width (entries - 1) → width ≡ bits_of (codes_of (texts_at_indexes ds codes))
     width_of_column width entries count is =
         is ∙ ap (λ n. least_width (n - 1)) (count ∙ ap length dictionary_is)
         ∙ least_width-codes_of ts ∙ ap (λ xs. bits_of (codes_of xs)) (sym coded_column.1)
 
 -- ---- the code of a row
 pub length-texts_at : (dictionary : List (List ℕ)) (codes : List ℕ)
-    → length (texts_at_places dictionary codes) ≡ length codes
-length-texts_at dictionary codes = length-map codes (λ place. get_or dictionary place [])
+    → length (texts_at_indexes dictionary codes) ≡ length codes
+length-texts_at dictionary codes = length-map codes (λ index. get_or dictionary index [])
 
--- the code of a row is a place in the dictionary
+-- the code of a row is a position in the dictionary
 pub code_within : (dictionary : List (List ℕ)) (codes : List ℕ) (row code : ℕ)
     → AreCodes dictionary codes → slice_get codes row ≡ Some code
-    → code < length (dictionary_of (texts_at_places dictionary codes))
+    → code < length (dictionary_of (texts_at_indexes dictionary codes))
 code_within dictionary codes row code h there =
     let inside : row < length codes = slice_get_within codes row code there in
     let within : code < length dictionary =
@@ -75,13 +73,14 @@ code_within dictionary codes row code h there =
 -- and there stands the row's text
 pub code_stands : (dictionary : List (List ℕ)) (codes : List ℕ) (row code : ℕ)
     → AreCodes dictionary codes → slice_get codes row ≡ Some code
-    → slice_get (dictionary_of (texts_at_places dictionary codes)) code
-    ≡ slice_get (texts_at_places dictionary codes) row
+    → slice_get (dictionary_of (texts_at_indexes dictionary codes)) code
+    ≡ slice_get (texts_at_indexes dictionary codes) row
 code_stands dictionary codes row code h there =
     let inside : row < length codes = slice_get_within codes row code there in
     let within : code < length dictionary =
     rw (get_or_from_slice_get codes row code 0 there) at (h.within row 0 inside) in
-    let text : slice_get (texts_at_places dictionary codes) row ≡ Some (get_or dictionary code []) =
-    slice_get-map (λ place. get_or dictionary place []) codes row
-    ∙ ap (option_map (λ place. get_or dictionary place [])) there in
+    let text : slice_get (texts_at_indexes dictionary codes) row
+    ≡ Some (get_or dictionary code []) =
+    slice_get-map (λ index. get_or dictionary index []) codes row
+    ∙ ap (option_map (λ index. get_or dictionary index [])) there in
     rw (← h.dictionary_is) (slice_get-get_or dictionary code [] within ∙ sym text)

@@ -1,6 +1,5 @@
 -- The width of a packed column's words.
-use Rattle.std.specs.Prelude.{◌^◌, if◌then◌else◌, ℕ, ℤ, ◌-ℤ◌, List, nat_lt}
-use Rattle.std.specs.Int.RustNames.{unsigned_abs}
+use Rattle.std.specs.{Prelude.{◌^◌, if◌then◌else◌, ℕ, ℤ, ◌-ℤ◌, List, nat_lt}, Int.RustNames.unsigned_abs}
 use Rattle.star_schema.specs.Bounds.{least, greatest}
 
 -- the least of 8, 16, 32 and 64 bits in which a number below 2 ^ 64 fits

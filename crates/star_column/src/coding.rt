@@ -1,9 +1,8 @@
 // From the texts of rows to their codes. The distinct retained texts become the dictionary in
 // order; the index of a text there is its code.
 
-ghost use Rattle.std.specs.Prelude.{◌≡◌, ◌-◌, ◌<◌, ◌^◌, All, IfOk, length, map, slice_index};
-ghost use Rattle.std.specs.{Int.RustNames.unsigned_abs, List.Sorted.IsStrictlySortedBy};
-ghost use Rattle.star_flat.specs.Repeated.{AreRepeated, places_in, texts_at_places};
+ghost use Rattle.std.specs.{Prelude.{◌≡◌, ◌-◌, ◌<◌, ◌^◌, All, IfOk, length, map, slice_index}, Int.RustNames.unsigned_abs, List.Sorted.IsStrictlySortedBy};
+ghost use Rattle.star_flat.specs.Repeated.{AreRepeated, indexes_in, texts_at_indexes};
 ghost use Rattle.star_schema.specs.Dictionary.{text_cmp};
 ghost use Rattle.star_column.specs.{Width.least_width, Private.Words.numbers_in, Private.Words.word_bits};
 
@@ -19,10 +18,9 @@ pub(crate) fn code_each(
 ) -> Result<(Dictionary, Words), AllocError>
     requires { length texts.now < 2 ^ 32 }
     ensures texts { IfOk result
-        (λ coded. texts_at_places coded.0 (numbers_in coded.1) ≡ texts.now) }
+        (λ coded. texts_at_indexes coded.0 (numbers_in coded.1) ≡ texts.now) }
     ensures repeated { IfOk result (λ coded. AreRepeated coded.0 (numbers_in coded.1)) }
-    ensures width { IfOk result
-        (λ coded. word_bits coded.1 ≡ least_width (length coded.0 - 1)) }
+    ensures width { IfOk result (λ coded. word_bits coded.1 ≡ least_width (length coded.0 - 1)) }
     ensures sorted { IfOk result (λ coded. IsStrictlySortedBy text_cmp coded.0) }
 {
     let (kept, rows) = texts.parts();
@@ -41,10 +39,10 @@ fn words_at(
     codes: &[u32],
     entries: u32,
 ) -> Result<Words, AllocError>
-    requires places { All (λ place. place < length codes.now) (places_in rows.now) }
+    requires indexes { All (λ index. index < length codes.now) (indexes_in rows.now) }
     requires codes { All (λ code. code < entries) codes.now }
     ensures numbers { IfOk result (λ words. numbers_in words
-        ≡ map (λ place. slice_index codes.now place) (places_in rows.now)) }
+        ≡ map (λ index. slice_index codes.now index) (indexes_in rows.now)) }
     ensures width { IfOk result (λ words. word_bits words ≡ least_width (entries - 1)) }
 {
     let span = entries.saturating_sub(1);
@@ -59,10 +57,10 @@ fn words_at(
 
 /// Returns the codes of the rows, in words of a width in which they fit.
 fn codes_at<W: Word>(alloc: Global, rows: &FlatNumbers, codes: &[u32]) -> Result<Vec<W>, AllocError>
-    requires places { All (λ place. place < length codes.now) (places_in rows.now) }
+    requires indexes { All (λ index. index < length codes.now) (indexes_in rows.now) }
     requires fit { All (λ code. code < W.limit) codes.now }
     ensures { IfOk result (λ found. map W.number found.items
-        ≡ map (λ place. slice_index codes.now place) (places_in rows.now)) }
+        ≡ map (λ index. slice_index codes.now index) (indexes_in rows.now)) }
 {
     match rows.words() {
         SignedWords::Bits8(words) => read_at(alloc, words.as_slice(), codes),
@@ -78,7 +76,7 @@ fn read_at<S: SignedWord, W: Word>(
     words: &[S],
     codes: &[u32],
 ) -> Result<Vec<W>, AllocError>
-    requires places { All (λ word. unsigned_abs (S.number word) < length codes.now) words.now }
+    requires indexes { All (λ word. unsigned_abs (S.number word) < length codes.now) words.now }
     requires fit { All (λ code. code < W.limit) codes.now }
     ensures { IfOk result (λ found. map W.number found.items
         ≡ map (λ word. slice_index codes.now (unsigned_abs (S.number word))) words.now) }

@@ -1,7 +1,6 @@
 // The dictionary of a column: its distinct texts in byte order.
 
-ghost use Rattle.std.specs.Prelude.{◌≡◌, ◌<◌, ◌^◌, Some, count_by, length, slice_get};
-ghost use Rattle.std.specs.List.Sorted.{IsStrictlySortedBy};
+ghost use Rattle.std.specs.{Prelude.{◌≡◌, ◌<◌, ◌^◌, Some, count_by, length, slice_get}, List.Sorted.IsStrictlySortedBy};
 ghost use Rattle.star_schema.specs.Dictionary.{text_cmp, low_in, high_in};
 ghost use Rattle.star_column.specs.Private.Edge.{is_after};
 
@@ -16,8 +15,7 @@ pub(crate) struct Dictionary {
 }
 
 impl Model for Dictionary {
-    ghost use Rattle.std.specs.Prelude.{◌<◌, ◌^◌, ℕ, List, length};
-    ghost use Rattle.std.specs.List.Sorted.{IsStrictlySortedBy};
+    ghost use Rattle.std.specs.{Prelude.{◌<◌, ◌^◌, ℕ, List, length}, List.Sorted.IsStrictlySortedBy};
     ghost use Rattle.star_schema.specs.Dictionary.{text_cmp};
 
     ghost Value = { List (List ℕ) };

@@ -1,7 +1,6 @@
 // Columns of 64-bit numbers.
 
-ghost use Rattle.std.specs.Prelude.{◌≡◌, ◌<◌, ◌^◌, [], All, Contains, IfSome, IsOkAnd, MatchOption, false, length, map, vec_len};
-ghost use Rattle.std.specs.Ordering.{is_gt, is_lt};
+ghost use Rattle.std.specs.{Prelude.{◌≡◌, ◌<◌, ◌^◌, [], All, Contains, IfSome, IsOkAnd, MatchOption, false, length, map, vec_len}, Ordering.{is_gt, is_lt}};
 ghost use Rattle.star_column.specs.Private.Bounds.{AreBounds};
 
 use crate::column::ColumnData;

@@ -26,21 +26,18 @@ pub struct TextColumn {
 }
 
 impl Model for TextColumn {
-    ghost use Rattle.std.specs.Prelude.{ℕ, List};
-    ghost use Rattle.std.specs.Prelude.{◌≡◌};
+    ghost use Rattle.std.specs.Prelude.{ℕ, List, ◌≡◌};
     ghost use Rattle.star_schema.specs.Dictionary.{codes_of};
-    ghost use Rattle.star_column.specs.Width.{bits_of};
-    ghost use Rattle.star_column.specs.Private.Codes.{AreCodes};
-    ghost use Rattle.star_flat.specs.Repeated.{texts_at_places};
-    ghost use Rattle.star_column.specs.Private.Words.{numbers_in, word_bits};
+    ghost use Rattle.star_column.specs.{Width.bits_of, Private.Codes.AreCodes, Private.Words.{numbers_in, word_bits}};
+    ghost use Rattle.star_flat.specs.Repeated.{texts_at_indexes};
 
     ghost Value = { List (List ℕ) };
 
-    ghost view = { λ column. texts_at_places column.dictionary (numbers_in column.codes) };
+    ghost view = { λ column. texts_at_indexes column.dictionary (numbers_in column.codes) };
 
     ghost invariant = { λ column. AreCodes column.dictionary (numbers_in column.codes)
         × (word_bits column.codes
-        ≡ bits_of (codes_of (texts_at_places column.dictionary (numbers_in column.codes)))) };
+        ≡ bits_of (codes_of (texts_at_indexes column.dictionary (numbers_in column.codes)))) };
 }
 
 impl TextColumn {

@@ -1,7 +1,6 @@
 // Unsigned numbers in words of 8, 16, 32 or 64 bits.
 
-ghost use Rattle.std.specs.Prelude.{◌≡◌, ◌+◌, ◌-◌, ◌<◌, ◌^◌, ℕ, ◌-ℤ◌, ◌≤ℤ◌, All, IfOk, Some, length, map, slice_get, true};
-ghost use Rattle.std.specs.{Int.RustNames.unsigned_abs};
+ghost use Rattle.std.specs.{Prelude.{◌≡◌, ◌+◌, ◌-◌, ◌<◌, ◌^◌, ℕ, ◌-ℤ◌, ◌≤ℤ◌, All, IfOk, Some, length, map, slice_get, true}, Int.RustNames.unsigned_abs};
 ghost use Rattle.star_interval.specs.{Range.Holds, Interval.range_of};
 ghost use Rattle.star_column.specs.{Width.least_width, Private.Words.numbers_above, Private.Words.numbers_in, Private.Words.word_bits};
 
@@ -252,15 +251,15 @@ impl Words {
     }
 
     /// Returns the number at an index, from 0.
-    pub(crate) fn at(&self, place: usize) -> u64
-        requires { place < length (numbers_in self.now) }
-        ensures { slice_get (numbers_in self.now) place ≡ Some result }
+    pub(crate) fn at(&self, index: usize) -> u64
+        requires { index < length (numbers_in self.now) }
+        ensures { slice_get (numbers_in self.now) index ≡ Some result }
     {
         match self {
-            Words::Bits8(words) => u64::from(words[place]),
-            Words::Bits16(words) => u64::from(words[place]),
-            Words::Bits32(words) => u64::from(words[place]),
-            Words::Bits64(words) => words[place],
+            Words::Bits8(words) => u64::from(words[index]),
+            Words::Bits16(words) => u64::from(words[index]),
+            Words::Bits32(words) => u64::from(words[index]),
+            Words::Bits64(words) => words[index],
         }
     }
 

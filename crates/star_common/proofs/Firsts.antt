@@ -1,22 +1,19 @@
 -- The first answer that the elements of a list give.
-use Rattle.std.proofs.Common.{◌≡◌, ◌+◌, ℕ, zero, suc, List, [], ◌∷◌, All, Option, Some, None, drop, arith, refl}
-use Rattle.std.proofs.{lemmas.List.Elements.All-cons, lemmas.List.Elements.All-head, lemmas.List.Elements.All-nil, lemmas.List.Elements.All-tail}
-use Rattle.std.specs.{List.enumerate_from, List.slice_get, Option.option_or}
-use Rattle.star_common.specs.First.{first_answer}
-use Rattle.star_common.proofs.Lists.{drop_at_place}
+use Rattle.std.{proofs.Common.{◌≡◌, ◌+◌, ℕ, zero, suc, List, [], ◌∷◌, All, Option, Some, None, drop, arith, refl}, proofs.lemmas.List.Elements.{All-cons, All-head, All-nil, All-tail}, specs.List.{enumerate_from, slice_get}, specs.Option.option_or}
+use Rattle.star_common.{specs.First.first_answer, proofs.Lists.drop_at_index}
 
 -- an element without an answer is passed over
 pub first_answer_on : {X A : Type 0} (f : X → Option A) (xs : List X) (i : ℕ) (x : X)
     → slice_get xs i ≡ Some x → f x ≡ None
     → first_answer f (drop i xs) ≡ first_answer f (drop (i + 1) xs)
 unfolding first_answer
-first_answer_on f xs i x at none = rw (drop_at_place xs i x at, none) refl
+first_answer_on f xs i x at none = rw (drop_at_index xs i x at, none) refl
 
 -- an element with an answer gives the first from there on
 pub first_answer_here : {X A : Type 0} (f : X → Option A) (xs : List X) (i : ℕ) (x : X) (a : A)
     → slice_get xs i ≡ Some x → f x ≡ Some a → first_answer f (drop i xs) ≡ Some a
 unfolding first_answer
-first_answer_here f xs i x a at some = rw (drop_at_place xs i x at, some) refl
+first_answer_here f xs i x a at some = rw (drop_at_index xs i x at, some) refl
 
 -- there is no first answer exactly where no element has one
 pub first_answer_none : {X A : Type 0} (f : X → Option A) (xs : List X) → All (λ x. f x ≡ None) xs

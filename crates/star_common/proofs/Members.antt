@@ -1,6 +1,5 @@
 -- The elements of a list, one after another.
-use Rattle.std.proofs.{Common.◌≡◌, Common.◌⊎◌, Common.suc, Common.◌<◌, Common.List, Common.[], Common.◌∷◌, Common.map, Common.refl, Common.arith, Common.subst, Common.⊎_elim, lemmas.List.Elements.All-contains, lemmas.List.Elements.All-from_recursion, lemmas.List.Elements.All-head, lemmas.List.Elements.All-tail}
-use Rattle.std.specs.List.{AllByRecursion, All, Contains}
+use Rattle.std.{proofs.Common.{◌≡◌, ◌⊎◌, suc, ◌<◌, List, [], ◌∷◌, map, refl, arith, subst, ⊎_elim}, proofs.lemmas.List.Elements.{All-contains, All-from_recursion, All-head, All-tail}, specs.List.{AllByRecursion, All, Contains}}
 
 module _ {X : Type 0} where
   pub contains_here : (x : X) (xs : List X) → Contains (x ∷ xs) x

@@ -1,7 +1,5 @@
 -- The number that some digits write.
-use Rattle.std.proofs.Common.{◌≡◌, ◌+◌, ◌*◌, ◌^◌, ◌<◌, ◌≤◌, ℕ, Option, Some, None, IfSome, Bool, true, false, ◌&&◌, List, [], ◌∷◌, get_or, length, take, arith, refl, lit<, add-one}
-use Rattle.std.proofs.{Math.Seq.take-suc, lemmas.Bool.and_parts, lemmas.Bool.leb-true, lemmas.Int.Digits.digits_value-lt, lemmas.Int.Digits.digits_value_more, lemmas.List.Folds.list_all-append, lemmas.Str.digit_value_digit, Math.Nat.pow-le-pow_right, Math.Nat.pow-suc}
-use Rattle.std.specs.{Char.is_ascii_digit, List.list_all, Prelude.if◌then◌else◌, Prelude.nat_le, Str.Parse.AllDigits, Str.Parse.digits_value}
+use Rattle.std.{proofs.Common.{◌≡◌, ◌+◌, ◌*◌, ◌^◌, ◌<◌, ◌≤◌, ℕ, Option, Some, None, IfSome, Bool, true, false, ◌&&◌, List, [], ◌∷◌, get_or, length, take, arith, refl, lit<, add-one}, proofs.Math.Seq.take-suc, proofs.lemmas.Bool.{and_parts, leb-true}, proofs.lemmas.Int.Digits.{digits_value-lt, digits_value_more}, proofs.lemmas.List.Folds.list_all-append, proofs.lemmas.Str.digit_value_digit, proofs.Math.Nat.{pow-le-pow_right, pow-suc}, specs.Char.is_ascii_digit, specs.List.list_all, specs.Prelude.{if◌then◌else◌, nat_le}, specs.Str.Parse.{AllDigits, digits_value}}
 use Rattle.star_common.specs.Numerals.{is_numeral, numeral_of}
 
 -- a digit is a byte from 48 to 57
@@ -49,19 +47,19 @@ all_digits (d ∷ text) h =
     let value = digit_value_digit d bounds in
     (omega (arith, bounds.0, bounds.1, value), all_digits text parts.1)
 
--- a numeral of some places is below ten to their number
-pub numeral_below : (places : ℕ) (text : List ℕ) (n : ℕ) → numeral_of places text ≡ Some n
-    → n < 10 ^ places
-numeral_below places text n h = go (is_numeral places text) refl h
+-- a numeral of some width is below ten to their number
+pub numeral_below : (width : ℕ) (text : List ℕ) (n : ℕ) → numeral_of width text ≡ Some n
+    → n < 10 ^ width
+numeral_below width text n h = go (is_numeral width text) refl h
   where
-    go : (b : Bool) → is_numeral places text ≡ b
-        → (if b then Some (digits_value 10 text) else None) ≡ Some n → n < 10 ^ places
+    go : (b : Bool) → is_numeral width text ≡ b
+        → (if b then Some (digits_value 10 text) else None) ≡ Some n → n < 10 ^ width
     go false e given = absurd (cc)
     go true e given =
-        let digits = and_parts (nat_le 1 (length text) && nat_le (length text) places)
+        let digits = and_parts (nat_le 1 (length text) && nat_le (length text) width)
         (list_all is_ascii_digit text) e in
-        let most = and_parts (nat_le 1 (length text)) (nat_le (length text) places) digits.0 in
+        let most = and_parts (nat_le 1 (length text)) (nat_le (length text) width) digits.0 in
         let is : digits_value 10 text ≡ n = cc in
         let small : n < 10 ^ length text =
         rw is at (digits_value-lt 10 text (all_digits text digits.1)) in
-        below_power (length text) places n small (leb-true (length text) places most.1)
+        below_power (length text) width n small (leb-true (length text) width most.1)

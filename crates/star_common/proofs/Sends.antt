@@ -1,7 +1,5 @@
 -- One more write of a text.
-use Rattle.std.proofs.Common.{◌≡◌, ◌+◌, ◌<◌, ◌≤◌, Bool, false, ℕ, List, [], ◌∷◌, ◌++◌, zero, suc, zero-add, length, ◌-◌, arith, Option, Some, None, take, drop, ◌∙◌, refl, append_assoc}
-use Rattle.std.specs.Io.KnownBytes.{Appends}
-use Rattle.std.proofs.lemmas.List.{length-drop, take_all}
+use Rattle.std.{proofs.Common.{◌≡◌, ◌+◌, ◌<◌, ◌≤◌, Bool, false, ℕ, List, [], ◌∷◌, ◌++◌, zero, suc, zero-add, length, ◌-◌, arith, Option, Some, None, take, drop, ◌∙◌, refl, append_assoc}, specs.Io.KnownBytes.Appends, proofs.lemmas.List.{length-drop, take_all}}
 
 take-nil : {X : Type 0} (n : ℕ) → take {A = X} n [] ≡ []
 take-nil zero = refl

@@ -1,6 +1,5 @@
 -- Tables of worked rows: what a function is given, and what it gives.
-use Rattle.std.proofs.Common.{◌≡◌, List, [], ◌∷◌, ap, arith}
-use Rattle.std.specs.{Prelude.map, List.AllByRecursion}
+use Rattle.std.{proofs.Common.{◌≡◌, List, [], ◌∷◌, ap, arith}, specs.Prelude.map, specs.List.AllByRecursion}
 
 -- each row is an input and what comes of it
 abbrev pub Gives : {A B : Type 0} → (A → B) → List (A × B) → Type 0

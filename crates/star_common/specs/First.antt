@@ -1,6 +1,5 @@
 -- The first result among some elements.
-use Rattle.std.specs.Prelude.{List, [], ◌∷◌, Option, None}
-use Rattle.std.specs.Option.{option_or}
+use Rattle.std.specs.{Prelude.{List, [], ◌∷◌, Option, None}, Option.option_or}
 
 -- the result of the first element that has one
 unfoldable pub first_answer : {X A : Type 0} → (X → Option A) → List X → Option A

@@ -1,6 +1,5 @@
 -- Quoted texts, in programs and reports.
-use Rattle.std.specs.Prelude.{ℕ, List, [], ◌∷◌, ◌++◌, ◌==◌, if◌then◌else◌}
-use Rattle.std.specs.List.{flat_map}
+use Rattle.std.specs.{Prelude.{ℕ, List, [], ◌∷◌, ◌++◌, ◌==◌, if◌then◌else◌}, List.flat_map}
 
 -- a byte of a quoted text: a quote is doubled
 abbrev pub doubled : ℕ → List ℕ

@@ -1,7 +1,6 @@
 // Writing a whole text to a sink.
 
-ghost use Rattle.std.specs.Prelude.{◌≡◌, ◌<◌, ◌↔◌, [], false, true, length, take, Ok, IfErr, IsOk, OnErr, OnOk};
-ghost use Rattle.std.specs.Io.KnownBytes.{Appends};
+ghost use Rattle.std.specs.{Prelude.{◌≡◌, ◌<◌, ◌↔◌, [], false, true, length, take, Ok, IfErr, IsOk, OnErr, OnOk}, Io.KnownBytes.Appends};
 
 use crate::sink::Sink;
 

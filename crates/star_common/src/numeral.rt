@@ -1,7 +1,6 @@
 // Decimal numbers.
 
-ghost use Rattle.std.specs.Prelude.{◌≡◌, ◌<◌, ◌≤◌, ◌^◌, Some, None, IfSome, if◌then◌else◌, length};
-ghost use Rattle.std.specs.{Char.is_ascii_digit, List.list_all, Str.Parse.digits_value};
+ghost use Rattle.std.specs.{Prelude.{◌≡◌, ◌<◌, ◌≤◌, ◌^◌, Some, None, IfSome, if◌then◌else◌, length}, Char.is_ascii_digit, List.list_all, Str.Parse.digits_value};
 ghost use Rattle.star_common.specs.Numerals.{numeral_of};
 
 // Returns the number that the digits write, or None if a byte is no digit.

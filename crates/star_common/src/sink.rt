@@ -1,7 +1,6 @@
 // Destinations of output.
 
-ghost use Rattle.std.specs.Prelude.{◌≡◌, ◌<◌, ◌≤◌, ◌⊎◌, ℕ, List, [], Option, Bool, true, false, length, take, IfOk, OnErr, IsErr};
-ghost use Rattle.std.specs.Io.KnownBytes.{Appends};
+ghost use Rattle.std.specs.{Prelude.{◌≡◌, ◌<◌, ◌≤◌, ◌⊎◌, ℕ, List, [], Option, Bool, true, false, length, take, IfOk, OnErr, IsErr}, Io.KnownBytes.Appends};
 ghost use Rattle.star_common.specs.Out.{has_failed, writer_of};
 
 use std::io::Write;

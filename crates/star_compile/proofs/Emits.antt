@@ -1,16 +1,12 @@
 -- An emitter writes pieces one behind another.
-use Rattle.std.proofs.Common.{◌≡◌, ℕ, ◌+◌, ◌≤◌, ◌<◌, List, [], ◌∷◌, ◌++◌, refl, sym, ap, subst, ◌∙◌, arith, append-nil, append_assoc, Result, Ok, Err, IfOk}
-use Rattle.std.specs.declared.alloc.AllocError.{AllocError}
+use Rattle.std.{proofs.Common.{◌≡◌, ℕ, ◌+◌, ◌≤◌, ◌<◌, List, [], ◌∷◌, ◌++◌, refl, sym, ap, subst, ◌∙◌, arith, append-nil, append_assoc, Result, Ok, Err, IfOk}, specs.declared.alloc.AllocError.AllocError}
 use Rattle.star_schema.specs.declared.{column.ColumnId.ColumnId, table.TableId.TableId}
 use Rattle.star_plan.specs.{declared.tree.Join.Join, Meaning.RowCondition}
-use Rattle.star_query.specs.{Limits.operands_of, Limits.comparisons_of, declared.token.Fold.Fold}
-use Rattle.star_query.specs.Tree.{Expression, column, constant, add, sub, mul, or, and, not, test, compare, between, Measure, count, fold}
-use Rattle.star_program.specs.declared.{op.Op.Op, op.Op.TheVariants.Assign, op.Op.TheVariants.Keep, op.Operation.Operation, op.Operation.TheVariants.Binary, op.Operator.Operator, body.Step.Step, body.Step.TheVariants.Act}
-use Rattle.star_program.specs.{Code.Code, Code.Then, Faults.target_of}
+use Rattle.star_query.specs.{Limits.{operands_of, comparisons_of}, declared.token.Fold.Fold, Tree.{Expression, column, constant, add, sub, mul, or, and, not, test, compare, between, Measure, count, fold}}
+use Rattle.star_program.specs.{declared.op.Op.Op, declared.op.Op.TheVariants.{Assign, Keep}, declared.op.Operation.Operation, declared.op.Operation.TheVariants.Binary, declared.op.Operator.Operator, declared.body.Step.Step, declared.body.Step.TheVariants.Act, Code.{Code, Then}, Faults.target_of}
 use Rattle.star_program.specs.CodeOfSteps as step
 use Rattle.star_compile_laws.specs.Compiled.{Env, Rest, writes_one, register_count, column_code, expression_code, condition_code, conjunct_code, keys_code, values_code, one_before, binary_code, write, one_more}
-use Rattle.star_compile.specs.declared.emitter.Emitter.{Emitter}
-use Rattle.star_compile.specs.Private.Emitted.{Completed, steps_then, env_of, completed, Wrote, Writes, HasRegisterRoom, keys_after, value_after, values_after}
+use Rattle.star_compile.specs.{declared.emitter.Emitter.Emitter, Private.Emitted.{Completed, steps_then, env_of, completed, Wrote, Writes, HasRegisterRoom, keys_after, value_after, values_after}}
 
 -- ---- one more step
 
@@ -46,9 +42,8 @@ abbrev env : ℕ → List (ColumnId × ℕ) → List (TableId × ℕ) → Env
 env n ls fs = record { next = n; loaded = ls; found = fs }
 
 pub assigned : {old new : Emitter} {o : Operation} {known : Env → Env} {r : ℕ}
-    → new.steps.items ≡ old.steps.items ++ Act (Assign old.next o) ∷ []
-    → new.next ≡ old.next + 1 → new.loaded.items ≡ (known (env_of old)).loaded
-    → new.found.items ≡ (known (env_of old)).found
+    → new.steps.items ≡ old.steps.items ++ Act (Assign old.next o) ∷ [] → new.next ≡ old.next + 1
+    → new.loaded.items ≡ (known (env_of old)).loaded → new.found.items ≡ (known (env_of old)).found
     → (known (env_of old)).next ≡ old.next + 1 → r ≡ old.next
     → Writes old new (assignment o known) r
 assigned {old = old} {new = new} {o = o} {r = r} pushed next loaded found known_next register =

@@ -1,6 +1,5 @@
 -- A query's numbers, and those after them, are of 64 bits.
-use Rattle.std.proofs.Common.{◌≡◌, true, refl, FitsSigned, w64, to_z, of_z, to_z-of_z}
-use Rattle.std.specs.Prelude.{ℤ, pos, ◌+ℤ◌}
+use Rattle.std.{proofs.Common.{◌≡◌, true, refl, FitsSigned, w64, to_z, of_z, to_z-of_z}, specs.Prelude.{ℤ, pos, ◌+ℤ◌}}
 use Rattle.star_query.specs.Spelled.{has_few_digits}
 use Rattle.star_compile_laws.proofs.Limits.{constant_said, next_said, said_fits}
 

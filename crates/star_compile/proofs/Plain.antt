@@ -1,13 +1,10 @@
 -- The program of a plain plan.
-use Rattle.std.proofs.Common.{◌≡◌, ◌∙◌, ◌<◌, ◌≤◌, ◌+◌, ℕ, zero, suc, List, [], ◌∷◌, ◌++◌, ap, append_assoc, arith, drop, length, length-append, map, refl, sym, true}
-use Rattle.std.proofs.{lemmas.List.append-nil, lemmas.List.drop_all}
-use Rattle.std.specs.List.{list_all}
+use Rattle.std.{proofs.Common.{◌≡◌, ◌∙◌, ◌<◌, ◌≤◌, ◌+◌, ℕ, zero, suc, List, [], ◌∷◌, ◌++◌, ap, append_assoc, arith, drop, length, length-append, map, refl, sym, true}, proofs.lemmas.List.{append-nil, drop_all}, specs.List.list_all}
 use Rattle.star_schema.specs.{declared.group.GroupColumn.GroupColumn, declared.group.Shape.Shape, declared.group.SortKey.SortKey, declared.column.ColumnId.ColumnId}
 use Rattle.star_plan.specs.{Limits.IsPlanWithinLimits, Meaning.Plan, Sound.IsSoundPlan, Sound.is_group_column, Views.column_measure_view, Views.measures_view, Views.plan_view, declared.tree.Aggregate.Aggregate, declared.tree.PlanTree.PlanTree}
 use Rattle.star_query.specs.Tree.{Measure}
 use Rattle.star_compile_laws.specs.Compiled.{plan_show}
-use Rattle.star_merge_laws.specs.Plain.{columns_at, plain_plan}
-use Rattle.star_merge_laws.proofs.PartialFacts.{plain_sound}
+use Rattle.star_merge_laws.{specs.Plain.{columns_at, plain_plan}, proofs.PartialFacts.plain_sound}
 use Rattle.star_compile.specs.Private.Shown.{plan_shown}
 use Rattle.star_schema.specs.declared.group.GroupColumn.TheVariants as group
 
@@ -23,22 +20,22 @@ shows_same p shape items sorts (group.Aggregate n ∷ columns) =
 
 -- ---- columns one by one
 
-next_column : {X : Type 0} (column : ℕ → GroupColumn) (place : ℕ) (xs : List X) (i : ℕ)
-    → i < length xs → columns_at column place (drop i xs)
-    ≡ column place ∷ columns_at column (place + 1) (drop (suc i) xs)
-next_column column place [] i h = absurd (omega arith)
-next_column column place (x ∷ xs) zero h = refl
-next_column column place (x ∷ xs) (suc i) h = next_column column place xs i (omega arith)
+next_column : {X : Type 0} (column : ℕ → GroupColumn) (index : ℕ) (xs : List X) (i : ℕ)
+    → i < length xs → columns_at column index (drop i xs)
+    ≡ column index ∷ columns_at column (index + 1) (drop (suc i) xs)
+next_column column index [] i h = absurd (omega arith)
+next_column column index (x ∷ xs) zero h = refl
+next_column column index (x ∷ xs) (suc i) h = next_column column index xs i (omega arith)
 
--- the columns from a place on are still to come
+-- the columns from a position on are still to come
 abbrev pub HasColumns : {X : Type 0} → (ℕ → GroupColumn) → List X → ℕ
     → (done whole : List GroupColumn) → Type 0
 HasColumns column xs i done whole = done ++ columns_at column i (drop i xs) ≡ whole
 
-next_from : {X : Type 0} (column : ℕ → GroupColumn) (place : ℕ) (xs : List X) (i j : ℕ) → j ≡ suc i
-    → i < length xs → columns_at column place (drop i xs)
-    ≡ column place ∷ columns_at column (place + 1) (drop j xs)
-next_from column place xs i j e within = rw e (next_column column place xs i within)
+next_from : {X : Type 0} (column : ℕ → GroupColumn) (index : ℕ) (xs : List X) (i j : ℕ) → j ≡ suc i
+    → i < length xs → columns_at column index (drop i xs)
+    ≡ column index ∷ columns_at column (index + 1) (drop j xs)
+next_from column index xs i j e within = rw e (next_column column index xs i within)
 
 pub one_column : {X : Type 0} (column : ℕ → GroupColumn) (xs : List X) (i : ℕ)
     (done whole : List GroupColumn) → i < length xs → HasColumns column xs i done whole
@@ -54,18 +51,18 @@ pub all_columns : {X : Type 0} (column : ℕ → GroupColumn) (xs : List X) (i :
 all_columns column xs i done whole past h = let none : drop i xs ≡ [] = drop_all i xs past in
     sym (append-nil done) ∙ rw none at h
 
-pub columns_mapped : {X Y : Type 0} (column : ℕ → GroupColumn) (place : ℕ) (f : X → Y) (xs : List X)
-    → columns_at column place (map f xs) ≡ columns_at column place xs
-columns_mapped column place f [] = refl
-columns_mapped column place f (x ∷ xs) =
-    ap (λ columns. column place ∷ columns) (columns_mapped column (place + 1) f xs)
+pub columns_mapped : {X Y : Type 0} (column : ℕ → GroupColumn) (index : ℕ) (f : X → Y) (xs : List X)
+    → columns_at column index (map f xs) ≡ columns_at column index xs
+columns_mapped column index f [] = refl
+columns_mapped column index f (x ∷ xs) =
+    ap (λ columns. column index ∷ columns) (columns_mapped column (index + 1) f xs)
 
 -- ---- limits
 
-count_columns : {X : Type 0} (column : ℕ → GroupColumn) (place : ℕ) (xs : List X)
-    → length (columns_at column place xs) ≡ length xs
-count_columns column place [] = refl
-count_columns column place (x ∷ xs) = ap suc (count_columns column (place + 1) xs)
+count_columns : {X : Type 0} (column : ℕ → GroupColumn) (index : ℕ) (xs : List X)
+    → length (columns_at column index xs) ≡ length xs
+count_columns column index [] = refl
+count_columns column index (x ∷ xs) = ap suc (count_columns column (index + 1) xs)
 
 pub plain_within : (p : Plan) → IsPlanWithinLimits p → IsPlanWithinLimits (plain_plan p)
 plain_within p h =

@@ -3,9 +3,7 @@ use Rattle.std.proofs.Common.{◌≡◌, ℕ, ◌+◌, ◌≤◌, List, [], ◌�
 use Rattle.star_plan.specs.Meaning.{Plan}
 use Rattle.star_program.specs.{declared.body.Step.Step, declared.body.Step.TheVariants.Act, declared.op.Op.TheVariants.Put, Code.Code, Code.Stop, Code.Then, CodeOfSteps.before, CodeOfSteps.code_of_steps}
 use Rattle.star_compile_laws.specs.Compiled.{Env, env_first, register_count, conjuncts_code, keys_code, values_code, turn_code}
-use Rattle.star_compile.specs.Private.Emitted.{Completed, steps_then, env_of, completed, Wrote, Writes, HasRegisterRoom}
-use Rattle.star_compile.specs.{declared.emitter.Emitter.Emitter}
-use Rattle.star_compile.proofs.Emits.{act, made, room_where}
+use Rattle.star_compile.{specs.Private.Emitted.{Completed, steps_then, env_of, completed, Wrote, Writes, HasRegisterRoom}, specs.declared.emitter.Emitter.Emitter, proofs.Emits.{act, made, room_where}}
 
 -- an emitter that has written nothing
 pub record IsFirst (e : Emitter) : Type 0 where

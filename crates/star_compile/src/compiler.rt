@@ -1,7 +1,6 @@
 // The program of a plan.
 
-ghost use Rattle.std.specs.Prelude.{◌≡◌, ◌+◌, ◌≤◌, true, IfOk, length};
-ghost use Rattle.std.specs.{List.list_all};
+ghost use Rattle.std.specs.{Prelude.{◌≡◌, ◌+◌, ◌≤◌, true, IfOk, length}, List.list_all};
 ghost use Rattle.star_schema.specs.declared.table.TableId.TheVariants.{Lineorder};
 ghost use Rattle.star_plan.specs.{Limits.IsPlanWithinLimits, Views.plan_view, Sound.IsSoundPlan, Sound.is_group_column, Spelled.IsSpelledPlan, Spelled.condition_is_spelled};
 ghost use Rattle.star_program.specs.{Code.Each, Code.Stop, CodeOfSteps.code_of_steps};
@@ -57,9 +56,8 @@ fn parts(
 ) -> Result<Parts, AllocError>
     requires limits { IsPlanWithinLimits (plan_view tree.now) }
     requires spelled { IsSpelledPlan (plan_view tree.now) }
-    requires there { list_all
-        (is_group_column (length tree.now.keys.items) (length tree.now.aggregates.items))
-        items.now ≡ true }
+    requires there { list_all (is_group_column (length tree.now.keys.items)
+        (length tree.now.aggregates.items)) items.now ≡ true }
     ensures { IfOk result (λ parts. parts
         ≡ compiled (plan_shown (plan_view tree.now) shape items.now sorts.now)) }
 {
@@ -85,11 +83,9 @@ fn program(
 ) -> Result<Program, AllocError>
     requires limits { IsPlanWithinLimits (plan_view tree.now) }
     requires spelled { IsSpelledPlan (plan_view tree.now) }
-    requires there { list_all
-        (is_group_column (length tree.now.keys.items) (length tree.now.aggregates.items))
-        items.now ≡ true }
-    requires few { IsPlanWithinLimits
-        (plan_shown (plan_view tree.now) shape items.now sorts.now) }
+    requires there { list_all (is_group_column (length tree.now.keys.items)
+        (length tree.now.aggregates.items)) items.now ≡ true }
+    requires few { IsPlanWithinLimits (plan_shown (plan_view tree.now) shape items.now sorts.now) }
     ensures { IfOk result (λ program. program
         ≡ compiled (plan_shown (plan_view tree.now) shape items.now sorts.now)) }
 {

@@ -1,7 +1,6 @@
 // The declarations of a program: its group, and the shown columns and their order.
 
-ghost use Rattle.std.specs.Prelude.{◌≡◌, ◌≤◌, true, length, map, IfOk};
-ghost use Rattle.std.specs.{List.list_all};
+ghost use Rattle.std.specs.{Prelude.{◌≡◌, ◌≤◌, true, length, map, IfOk}, List.list_all};
 ghost use Rattle.star_plan.specs.{Meaning.aggregate_of, Views.column_measure_view, Views.measures_view, Views.plan_view, Sound.is_group_column};
 ghost use Rattle.star_merge_laws.specs.Plain.{plain_plan};
 ghost use Rattle.star_query_meaning.specs.Answers.{shown_name};
@@ -60,7 +59,8 @@ pub(crate) fn group(alloc: Global, tree: &PlanTree, shape: Shape) -> Result<Grou
         ≡ record {
           shape = shape;
           keys = map spec.key_of_group tree.now.keys.items;
-          aggregates = map aggregate_of (measures_view tree.now.aggregates.items);
+          aggregates =
+              map aggregate_of (measures_view tree.now.aggregates.items);
         }) }
 {
     Ok(GroupDecl {
@@ -77,10 +77,10 @@ fn name(alloc: Global, tree: &PlanTree, column: GroupColumn) -> Result<Vec<u8>, 
     ensures { IfOk result (λ name. name.items ≡ shown_name (plan_view tree.now) column) }
 {
     match column {
-        GroupColumn::Key(place) => {
-            Vec::from_slice(alloc, name_of(tree.keys[place as usize]).as_bytes())
+        GroupColumn::Key(index) => {
+            Vec::from_slice(alloc, name_of(tree.keys[index as usize]).as_bytes())
         }
-        GroupColumn::Aggregate(place) => tree.aggregates[place as usize].name.clone(),
+        GroupColumn::Aggregate(index) => tree.aggregates[index as usize].name.clone(),
     }
 }
 
@@ -90,9 +90,8 @@ pub(crate) fn shows(
     tree: &PlanTree,
     items: &[GroupColumn],
 ) -> Result<Vec<Show>, AllocError>
-    requires there { list_all
-        (is_group_column (length tree.now.keys.items) (length tree.now.aggregates.items))
-        items.now ≡ true }
+    requires there { list_all (is_group_column (length tree.now.keys.items)
+        (length tree.now.aggregates.items)) items.now ≡ true }
     ensures { IfOk result (λ shows.
         shows.items ≡ map (spec.plan_show (plan_view tree.now)) items.now) }
 {
@@ -112,15 +111,14 @@ pub(crate) fn shows(
 pub(crate) fn plain_columns(alloc: Global, tree: &PlanTree) -> Result<Vec<GroupColumn>, AllocError>
     requires keys { length tree.now.keys.items ≤ 6 }
     requires aggregates { length tree.now.aggregates.items ≤ 8 }
-    ensures { IfOk result (λ columns. columns.items
-        ≡ (plain_plan (plan_view tree.now)).items) }
+    ensures { IfOk result (λ columns. columns.items ≡ (plain_plan (plan_view tree.now)).items) }
 {
     let mut columns = Vec::new(alloc);
-    for place in 0..tree.keys.len() {
-        columns.push(GroupColumn::Key(place as u16))?;
+    for index in 0..tree.keys.len() {
+        columns.push(GroupColumn::Key(index as u16))?;
     }
-    for place in 0..tree.aggregates.len() {
-        columns.push(GroupColumn::Aggregate(place as u16))?;
+    for index in 0..tree.aggregates.len() {
+        columns.push(GroupColumn::Aggregate(index as u16))?;
     }
     Ok(columns)
 }

@@ -1,32 +1,16 @@
 -- What refuses the instructions of a compiled program: the first range that leaves 64 bits, or
 -- nothing.
-use Rattle.std.proofs.Common.{◌≡◌, ℕ, ◌+◌, ◌*◌, ◌≤◌, ◌<◌, Bool, true, false, List, [], ◌∷◌, length, map, Option, Some, None, refl, sym, ap, subst, ◌∙◌, arith}
-use Rattle.std.proofs.lemmas.Bool.{and_parts, eq-eqb, lt-ltb, ne_eqb, or_from, true≢false}
-use Rattle.std.specs.Prelude.{pos, ◌&&◌, ◌||◌, not, nat_eq, nat_lt, if◌then◌else◌}
-use Rattle.std.specs.{List.list_all, Option.option_map, Option.option_or}
-use Rattle.star_schema.specs.{declared.table.TableId.TheVariants.Lineorder, declared.column.ColumnId.ColumnId, Schema.kind_of, Schema.table_of}
+use Rattle.std.{proofs.Common.{◌≡◌, ℕ, ◌+◌, ◌*◌, ◌≤◌, ◌<◌, Bool, true, false, List, [], ◌∷◌, length, map, Option, Some, None, refl, sym, ap, subst, ◌∙◌, arith}, proofs.lemmas.Bool.{and_parts, eq-eqb, lt-ltb, ne_eqb, or_from, true≢false}, specs.Prelude.{pos, ◌&&◌, ◌||◌, not, nat_eq, nat_lt, if◌then◌else◌}, specs.List.list_all, specs.Option.{option_map, option_or}, proofs.lemmas.Grind.common_steps}
+use Rattle.star_schema.{specs.declared.table.TableId.TheVariants.Lineorder, specs.declared.column.ColumnId.ColumnId, specs.Schema.{kind_of, table_of}, proofs.Same.column_itself}
 use Rattle.star_schema.specs.declared.column.Kind.TheVariants as kind
-use Rattle.star_schema.proofs.Same.{column_itself}
 use Rattle.star_interval.specs.Range.{fits_i64}
 use Rattle.star_query.specs.Tree.{Expression, Measure, add, column, constant, count, fold, mul, sub}
 use Rattle.star_plan.specs.{Fits.expression_range, Fits.measure_fits, Fits.nodes_fit, Meaning.aggregate_of, Meaning.Plan, Meaning.RowCondition, Names.same_kind, Sound.IsSoundPlan, Sound.in_scope}
-use Rattle.star_program.specs.declared.{fault.Fault.TheVariants.BadRegister, fault.Fault.TheVariants.WrittenTwice, op.Op.TheVariants.Assign, op.Op.TheVariants.Keep, op.Op.TheVariants.Put, op.Operation.Operation, op.Operation.TheVariants.Read, program.Parts.Parts}
+use Rattle.star_program.specs.{declared.fault.Fault.TheVariants.{BadRegister, WrittenTwice}, declared.op.Op.TheVariants.{Assign, Keep, Put}, declared.op.Operation.Operation, declared.op.Operation.TheVariants.Read, declared.program.Parts.Parts, Code.{Code, Stop, Then}, Values.with_entry, World.{World, is_column, is_text}, Faults.{fault_of, fits_key, is_flag_kind, keys_fault, numbers_fault, operand_fault, unless, value_count}}
 use Rattle.star_program.specs.declared.group.GroupKey.TheVariants as key
-use Rattle.star_program.specs.{Code.Code, Code.Stop, Code.Then, Values.with_entry, World.World, World.is_column, World.is_text}
-use Rattle.star_program.specs.Faults.{fault_of, fits_key, is_flag_kind, keys_fault, numbers_fault, operand_fault, unless, value_count}
-use Rattle.star_safety.specs.declared.reason.Reason.{Reason, TheVariants.Faulty, TheVariants.Overflow}
-use Rattle.star_safety.specs.{Contexts.Context, Contexts.after_op, Contexts.at_first, Private.Forward.first_reason, Private.Forward.none_open, Private.Forward.open_with, Standing.at_place}
-use Rattle.star_safety.specs.Ranges.{AllKnown, Known, KnownFlag, KnownNumber, KnownRow, kinds_known, known_kind, loaded_known}
-use Rattle.star_safety.specs.Refusals.{op_reason, overflow_of, reached, refuses, target_again}
-use Rattle.star_safety.proofs.Instructions.{both_none}
-use Rattle.star_compile_laws.specs.Compiled.{body_code, compiled, key_of_group, register_count, turn_code}
-use Rattle.star_compile_laws.specs.Wide.{Computed, computed, first_wide, given, too_wide, turn_wide}
-use Rattle.star_compile_laws.proofs.Contents.{AllHold, Content, Makes, OfColumn, OfCondition, numbers_put}
-use Rattle.star_compile_laws.proofs.{Entries.entry_other, Entries.entry_same, Joins.holds_numbers}
-use Rattle.star_compile_laws.proofs.Pieces.{IsKept, Law, Stays, conjuncts_grade, expression_grade, made, of_turn, values_grade}
-use Rattle.star_compile_laws.proofs.Suits.{Agree, AgreeAt, AreColumnsI64, Point, Suits, at_of, fits, fits_zero, in_turn, number_known, operand, suits}
+use Rattle.star_safety.{specs.declared.reason.Reason.Reason, specs.declared.reason.Reason.TheVariants.{Faulty, Overflow}, specs.Contexts.{Context, after_op, at_first}, specs.Private.Forward.{first_reason, none_open, open_with}, specs.Standing.at_position, specs.Ranges.{AllKnown, Known, KnownFlag, KnownNumber, KnownRow, kinds_known, known_kind, loaded_known}, specs.Refusals.{op_reason, overflow_of, reached, refuses, target_again}, proofs.Instructions.both_none}
+use Rattle.star_compile_laws.{specs.Compiled.{body_code, compiled, key_of_group, register_count, turn_code}, specs.Wide.{Computed, computed, first_wide, given, too_wide, turn_wide}, proofs.Contents.{AllHold, Content, Makes, OfColumn, OfCondition, numbers_put}, proofs.Entries.{entry_other, entry_same}, proofs.Joins.holds_numbers, proofs.Pieces.{IsKept, Law, Stays, conjuncts_grade, expression_grade, made, of_turn, values_grade}, proofs.Suits.{Agree, AgreeAt, AreColumnsI64, Point, Suits, at_of, fits, fits_zero, in_turn, number_known, operand, suits}}
 use Rattle.star_compile_laws.proofs.Suits as known
-use Rattle.std.proofs.lemmas.Grind.{common_steps}
 
 pub or_none_right : {A : Type 0} (o : Option A) → option_or o None ≡ o
 or_none_right None = refl
@@ -180,7 +164,7 @@ module _ (w : World) (p : Plan) (sound : IsSoundPlan p) (met : ℕ) (pending : �
             room = omega (arith, room);
           }) in
           let goes : answer a (Then (Assign n o) rest) ≡ answer after' rest =
-          λ i. option_or (at_place a.at (over true e i)) (first_reason w f pending
+          λ i. option_or (at_position a.at (over true e i)) (first_reason w f pending
           (in_turn met (with_entry a.known n (suit.makes i)) after'.written) (a.at + 1) rest) in
           let grade = same_grade x suit.v suit.is e g in record {
             first = goes ∙ later.first ∙ sym (wide_is true e);
@@ -190,7 +174,7 @@ module _ (w : World) (p : Plan) (sound : IsSoundPlan p) (met : ℕ) (pending : �
       by false e =
           let goes : answer a (Then (Assign n o) rest)
           ≡ Some (a.at, too_wide w.bounds number') =
-          ap (λ r. option_or (at_place a.at r) (first_reason w f pending
+          ap (λ r. option_or (at_position a.at r) (first_reason w f pending
           (after_op w f (context a) (Assign n o)) (a.at + 1) rest)) (over false e) in record {
             first = goes ∙ sym (wide_is false e);
             fit = λ none. (let wrong = sym goes ∙ none in absurd (cc));
@@ -216,7 +200,7 @@ module _ (w : World) (p : Plan) (sound : IsSoundPlan p) (met : ℕ) (pending : �
         room = omega (arith, room);
       }) in
       subst (λ o. Judged Asked g o (wide a (Then (Keep r) rest)))
-      (λ i. option_or (at_place a.at (option_or (option_map Faulty (sym fault i)) None))
+      (λ i. option_or (at_position a.at (option_or (option_map Faulty (sym fault i)) None))
       (first_reason w f pending (in_turn met a.known (λ q. a.written q || false)) (a.at + 1) rest))
       later
 
@@ -323,7 +307,7 @@ program_judged w p sound =
     let written = λ (q : ℕ). false || nat_eq 0 q in
     let inside = first_reason w (compiled p) pending (in_turn met known written) 2 (turn_code p) in
     let alone : first_reason w (compiled p) none_open at_first 1 (compiled p).body ≡ inside =
-    (λ j. option_or (at_place 1 (option_map Faulty
+    (λ j. option_or (at_position 1 (option_map Faulty
     (option_or (unless (some_room (register_count (turn_code p)) j) BadRegister) None)))
     (option_or inside None))
     ∙ or_none_right inside in

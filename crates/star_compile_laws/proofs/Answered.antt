@@ -1,23 +1,15 @@
 -- The outcomes of a compiled program are the query's answers.
-use Rattle.std.proofs.Common.{◌≡◌, ℕ, zero, suc, ◌<◌, true, false, List, [], ◌∷◌, length, Option, Some, None, refl, sym, ap, subst, ◌∙◌, arith}
+use Rattle.std.{proofs.Common.{◌≡◌, ℕ, zero, suc, ◌<◌, true, false, List, [], ◌∷◌, length, Option, Some, None, refl, sym, ap, subst, ◌∙◌, arith}, specs.Prelude.{pos, map, nat_lt}, specs.List.{Contains, list_all}, specs.Option.option_map, specs.Ordering.is_eq, proofs.lemmas.Bool.and_parts, proofs.lemmas.List.{length-map, length-replicate}, proofs.lemmas.List.Sorted.{IsPermutation-reverse, IsPermutation-sym}, proofs.lemmas.Grind.common_steps}
 use mathlib.Core.{Logic.inl, Logic.inr, List.reverse, List.map-map}
-use Rattle.std.specs.{Prelude.pos, Prelude.map, Prelude.nat_lt, List.Contains, List.list_all, Option.option_map, Ordering.is_eq}
-use Rattle.std.proofs.lemmas.{Bool.and_parts, List.length-map, List.length-replicate, List.Sorted.IsPermutation-reverse, List.Sorted.IsPermutation-sym}
 use Rattle.star_common.proofs.Members.{from_contains_map}
-use Rattle.star_schema.specs.declared.{table.TableId.TableId, table.TableId.TheVariants.Lineorder, column.ColumnId.ColumnId, group.Shape.Shape}
-use Rattle.star_schema.specs.{Groups.Entry, Groups.GroupRow, Groups.IsGroup, Groups.IsMasked, Groups.AreGroups, Order.value_cmp, Schema.table_of, Tables.Value, Tables.Number, Tables.Text}
-use Rattle.star_plan.specs.Meaning.{Tables, Joined, joined_value, all_hold, measured, aggregate_of, joined_rows, plan_rows, entry_of, Plan}
-use Rattle.star_plan.specs.Sound.{in_scope, IsSoundPlan}
+use Rattle.star_schema.specs.{declared.table.TableId.TableId, declared.table.TableId.TheVariants.Lineorder, declared.column.ColumnId.ColumnId, declared.group.Shape.Shape, Groups.{Entry, GroupRow, IsGroup, IsMasked, AreGroups}, Order.value_cmp, Schema.table_of, Tables.{Value, Number, Text}}
+use Rattle.star_plan.specs.{Meaning.{Tables, Joined, joined_value, all_hold, measured, aggregate_of, joined_rows, plan_rows, entry_of, Plan}, Sound.{in_scope, IsSoundPlan}}
 use Rattle.star_program.specs.declared.group.GroupKey.TheVariants as declared
 use Rattle.star_program.specs.{declared.key.KeyValue.KeyValue, declared.program.Show.Show, RowCells.cell_of, Outcome.decoded, Outcome.decoded_keys, Outcome.decoded_row, World.World}
 use Rattle.star_program.specs.declared.key.KeyValue.TheVariants as key
 use Rattle.star_program.specs.Keys as by_code
-use Rattle.star_compile_laws.specs.{Compiled.plan_group, Compiled.key_of_group, Compiled.plan_show, Answers.AnswersThePlan, Answers.coded, Answers.update_of_row}
+use Rattle.star_compile_laws.{specs.Compiled.{plan_group, key_of_group, plan_show}, specs.Answers.{AnswersThePlan, coded, update_of_row}, proofs.Comparisons.code_eq, proofs.Elements.{map_same, contains_filtered, contains_numbers}, proofs.Rows.{row_of_fact, is_turn, joined_are, puts_the_rows}, proofs.KeyCodes.{applied, applied_some, Keeps, entry_applied, row_applied, groups_applied}, proofs.TurnRows.{Sees, Shows, IsTurn, numbers, place_in}}
 use Rattle.star_query_meaning.proofs.GroupOrders.{groups_reordered}
-use Rattle.star_compile_laws.proofs.{Comparisons.code_eq, Elements.map_same, Elements.contains_filtered, Elements.contains_numbers, Rows.row_of_fact, Rows.is_turn, Rows.joined_are, Rows.puts_the_rows}
-use Rattle.star_compile_laws.proofs.KeyCodes.{applied, applied_some, Keeps, entry_applied, row_applied, groups_applied}
-use Rattle.star_compile_laws.proofs.TurnRows.{Sees, Shows, IsTurn, numbers, place_in}
-use Rattle.std.proofs.lemmas.Grind.{common_steps}
 
 -- ---- keys
 
@@ -35,8 +27,8 @@ key_kept : (w : World) (c : ColumnId) (n m : ℕ) (v u : Value) → Shows w c n 
     → is_eq (value_cmp v u) ≡ is_eq (by_code.key_value_cmp (coded w c v) (coded w c u))
 key_kept w c n m (Number z) (Number y) p q = refl
 key_kept w c n m (Text v) (Text u) p q =
-    code_eq (w.low c v) (w.low c u) v u (ap (λ k. nat_lt k (w.low c u)) (sym p.1.place) ∙ p.1.low u)
-    (ap (λ k. nat_lt k (w.low c v)) (sym q.1.place) ∙ q.1.low v)
+    code_eq (w.low c v) (w.low c u) v u (ap (λ k. nat_lt k (w.low c u)) (sym p.1.index) ∙ p.1.low u)
+    (ap (λ k. nat_lt k (w.low c v)) (sym q.1.index) ∙ q.1.low v)
 key_kept w c n m (Number z) (Text u) p q = let a : true ≡ false = sym q.0 ∙ p.0 in absurd (cc)
 key_kept w c n m (Text v) (Number z) p q = let a : true ≡ false = sym p.0 ∙ q.0 in absurd (cc)
 

@@ -1,9 +1,5 @@
--- Comparisons of numbers and of places say what comparisons of values do.
-use Rattle.std.proofs.Common.{◌≡◌, ℕ, Bool, List, refl, sym, ap, ◌∙◌, arith, cond}
-use Rattle.std.proofs.{lemmas.Int.ints, lemmas.Grind.common_steps}
-use Rattle.std.specs.Prelude.{ℤ, pos, ◌+ℤ◌, ◌&&◌, not, nat_lt}
-use Rattle.std.specs.Ordering.{int_cmp, nat_cmp, is_eq, is_ne, is_lt, is_le, is_gt, is_ge, ordering_reverse}
-use Rattle.std.specs.{declared.cmp.Ordering.Ordering, declared.cmp.Ordering.TheVariants.Less, declared.cmp.Ordering.TheVariants.Equal, declared.cmp.Ordering.TheVariants.Greater, Cmp.Lexicographic.slice_cmp, Cmp.Lexicographic.nat_list_cmp_total, Cmp.int_cmp_total}
+-- Comparisons of numbers and of positions say what comparisons of values do.
+use Rattle.std.{proofs.Common.{◌≡◌, ℕ, Bool, List, refl, sym, ap, ◌∙◌, arith, cond}, proofs.lemmas.Int.ints, proofs.lemmas.Grind.common_steps, specs.Prelude.{ℤ, pos, ◌+ℤ◌, ◌&&◌, not, nat_lt}, specs.Ordering.{int_cmp, nat_cmp, is_eq, is_ne, is_lt, is_le, is_gt, is_ge, ordering_reverse}, specs.declared.cmp.Ordering.Ordering, specs.declared.cmp.Ordering.TheVariants.{Less, Equal, Greater}, specs.Cmp.Lexicographic.{slice_cmp, nat_list_cmp_total}, specs.Cmp.int_cmp_total}
 
 pub lt_by : (a b : Bool) → is_lt (cond a Less (cond b Greater Equal)) ≡ a
 lt_by it b = grind (arith, common_steps)
@@ -45,7 +41,7 @@ number_ge x a = ap is_le (int_cmp_total.antisymm a x) ∙ le_turned (int_cmp x a
 pub number_upto : (x b : ℤ) → is_lt (int_cmp x (b +ℤ pos 1)) ≡ is_le (int_cmp x b)
 number_upto x b = grind (arith, common_steps, ints, lt_by, le_not_lt)
 
--- ---- places
+-- ---- positions
 pub place_lt : (m n : ℕ) → is_lt (int_cmp (pos m) (pos n)) ≡ nat_lt m n
 place_lt m n = lt_by (nat_lt m n) (nat_lt n m)
 

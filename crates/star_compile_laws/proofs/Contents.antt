@@ -1,17 +1,14 @@
 -- What the registers of a turn hold, and what each instruction of a turn makes of it.
-use Rattle.std.proofs.Common.{◌≡◌, ℕ, Bool, true, false, List, [], ◌∷◌, refl, arith}
-use Rattle.std.specs.Prelude.{ℤ, pos, ◌+ℤ◌}
+use Rattle.std.{proofs.Common.{◌≡◌, ℕ, Bool, true, false, List, [], ◌∷◌, refl, arith}, specs.Prelude.{ℤ, pos, ◌+ℤ◌}, proofs.lemmas.Grind.common_steps}
 use Rattle.star_schema.specs.{declared.table.TableId.TableId, declared.column.ColumnId.ColumnId, Schema.table_of, Tables.Value, Tables.Number, Tables.Text}
 use Rattle.star_interval.specs.Range.{is_i64}
-use Rattle.star_query.specs.Tree.{Comparison, Expression, Measure, constant, add, sub, mul, or, and, not, compare, between, test, count, fold}
-use Rattle.star_query.specs.{declared.token.Relation.Relation, Spelled.has_few_digits, Spelled.is_printable_text}
+use Rattle.star_query.specs.{Tree.{Comparison, Expression, Measure, constant, add, sub, mul, or, and, not, compare, between, test, count, fold}, declared.token.Relation.Relation, Spelled.{has_few_digits, is_printable_text}}
 use Rattle.star_plan.specs.{declared.tree.Join.Join, Meaning.RowCondition, Sound.joins_table}
 use Rattle.star_program.specs.declared.op.Operation.TheVariants.{Binary, Const, Edge as edge_of, Find, Load, Not, Within}
 use Rattle.star_program.specs.{declared.op.Edge.Edge, declared.op.Edge.TheVariants.High, declared.op.Edge.TheVariants.Low, declared.op.Operation.Operation, declared.op.Operator.Operator, Code.Code, World.is_text}
 use Rattle.star_compile_laws.specs.Compiled.{Env, Rest, beside, column_code, condition_code, foreign_of, test_code, between_code, write}
 use Rattle.star_query.specs.declared.token.Relation.TheVariants as sign
 use Rattle.star_program.specs.declared.op.Operator.TheVariants as operator
-use Rattle.std.proofs.lemmas.Grind.{common_steps}
 
 -- ---- tests
 
@@ -149,10 +146,9 @@ pub data Makes (js : List Join) (Sound Spelled : Type 0) (Holds : ℕ → Conten
   is_after : (o : Comparing) (c : ColumnId) (l : Limit) (x m : ℕ)
       → IsLimit Sound Spelled c l → Holds x (OfColumn c) → Holds m (OfLimit c l)
       → Makes js Sound Spelled Holds (Binary (operator_of o) m x) (OfTest c (after o l))
-  is_within : (c : ColumnId) (l u : Limit) (x m n : ℕ)
-      → IsLimit Sound Spelled c l → IsLimit Sound Spelled c u → Holds x (OfColumn c)
-      → Holds m (OfLimit c l) → Holds n (OfLimit c u)
-      → Makes js Sound Spelled Holds (Within x m n) (OfTest c (within l u))
+  is_within : (c : ColumnId) (l u : Limit) (x m n : ℕ) → IsLimit Sound Spelled c l
+      → IsLimit Sound Spelled c u → Holds x (OfColumn c) → Holds m (OfLimit c l)
+      → Holds n (OfLimit c u) → Makes js Sound Spelled Holds (Within x m n) (OfTest c (within l u))
   fails : (c : ColumnId) (f : Form) (x : ℕ) → Holds x (OfTest c f)
       → Makes js Sound Spelled Holds (Not x) (OfTest c (negated f))
   denies : (d : RowCondition) (x : ℕ) → Holds x (OfCondition d)

@@ -1,6 +1,5 @@
 -- The elements of lists.
-use Rattle.std.proofs.Common.{◌≡◌, ℕ, zero, suc, ◌+◌, ◌<◌, Bool, true, false, List, [], ◌∷◌, map, refl, subst, arith, ⊎_elim, cond}
-use Rattle.std.specs.{Prelude.filter, List.Contains}
+use Rattle.std.{proofs.Common.{◌≡◌, ℕ, zero, suc, ◌+◌, ◌<◌, Bool, true, false, List, [], ◌∷◌, map, refl, subst, arith, ⊎_elim, cond}, specs.Prelude.filter, specs.List.Contains}
 use Rattle.star_common.proofs.Members.{contains_here, contains_later, contains_cases, contains_none}
 use Rattle.star_compile_laws.proofs.TurnRows.{numbers}
 

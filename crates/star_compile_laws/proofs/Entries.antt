@@ -1,10 +1,7 @@
 -- What is known of a key, a column or a table, after one more entry.
-use Rattle.std.proofs.Common.{◌≡◌, ◌⊎◌, ℕ, ◌+◌, ◌≤◌, ◌<◌, Bool, true, false, List, [], ◌∷◌, ◌++◌, Option, Some, None, refl, sym, ◌∙◌, arith}
-use Rattle.std.specs.{Prelude.nat_eq, Prelude.if◌then◌else◌, Option.option_or}
-use Rattle.std.proofs.lemmas.{Bool.cond-true, Bool.cond-false, Bool.eq-eqb, Bool.ne_eqb, Option.same_Some}
+use Rattle.std.{proofs.Common.{◌≡◌, ◌⊎◌, ℕ, ◌+◌, ◌≤◌, ◌<◌, Bool, true, false, List, [], ◌∷◌, ◌++◌, Option, Some, None, refl, sym, ◌∙◌, arith}, specs.Prelude.{nat_eq, if◌then◌else◌}, specs.Option.option_or, proofs.lemmas.Bool.{cond-true, cond-false, eq-eqb, ne_eqb}, proofs.lemmas.Option.same_Some, proofs.lemmas.Grind.common_steps}
 use Rattle.star_program.specs.Values.{with_entry}
 use Rattle.star_compile_laws.specs.Compiled.{register_in}
-use Rattle.std.proofs.lemmas.Grind.{common_steps}
 
 abbrev pub one_if : Bool → ℕ
 one_if b = if b then 1 else 0

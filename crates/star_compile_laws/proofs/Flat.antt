@@ -1,12 +1,10 @@
 -- A turn of a compiled program has no scan.
-use Rattle.std.proofs.Common.{◌≡◌, ℕ, Bool, true, false, refl, arith}
+use Rattle.std.proofs.{Common.{◌≡◌, ℕ, Bool, true, false, refl, arith}, lemmas.Grind.common_steps}
 use Rattle.star_schema.specs.declared.table.TableId.{TableId, TheVariants.Lineorder}
 use Rattle.star_plan.specs.Meaning.{Plan}
 use Rattle.star_program.specs.Code.{Code, Stop, Then, Each, scan_depth}
 use Rattle.star_safety.specs.Quote.{turns_met, quote}
-use Rattle.star_compile_laws.specs.Compiled.{turn_code, compiled}
-use Rattle.star_compile_laws.proofs.Pieces.{Law, of_turn}
-use Rattle.std.proofs.lemmas.Grind.{common_steps}
+use Rattle.star_compile_laws.{specs.Compiled.{turn_code, compiled}, proofs.Pieces.{Law, of_turn}}
 
 abbrev pub flat : Code → Bool
 flat Stop = true

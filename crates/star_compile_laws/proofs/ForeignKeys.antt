@@ -1,13 +1,9 @@
 -- A table that a plan joins is joined by a foreign key of the fact.
-use Rattle.std.proofs.Common.{◌≡◌, Bool, true, false, ◌||◌, List, [], ◌∷◌, Some, refl, sym, ap, subst}
-use Rattle.std.specs.{Prelude.if◌then◌else◌, List.AllByRecursion, List.list_all}
-use Rattle.std.proofs.lemmas.Bool.{and_parts}
-use Rattle.star_schema.specs.{declared.table.TableId.TableId, declared.table.TableId.TheVariants.Lineorder, declared.column.ColumnId.ColumnId, Schema.is_table, Schema.references, Schema.table_of}
-use Rattle.star_schema.proofs.{KeyColumns.foreign_key, Same.table_same}
+use Rattle.std.{proofs.Common.{◌≡◌, Bool, true, false, ◌||◌, List, [], ◌∷◌, Some, refl, sym, ap, subst}, specs.Prelude.if◌then◌else◌, specs.List.{AllByRecursion, list_all}, proofs.lemmas.Bool.and_parts}
+use Rattle.star_schema.{specs.declared.table.TableId.TableId, specs.declared.table.TableId.TheVariants.Lineorder, specs.declared.column.ColumnId.ColumnId, specs.Schema.{is_table, references, table_of}, proofs.KeyColumns.foreign_key, proofs.Same.table_same}
 use Rattle.star_plan.specs.{declared.tree.Join.Join, Joins.is_foreign, Sound.joins_table}
 use Rattle.star_program.specs.World.{is_text}
-use Rattle.star_compile_laws.specs.Compiled.{foreign_of}
-use Rattle.star_compile_laws.proofs.Joins.{foreign_refers, of_text}
+use Rattle.star_compile_laws.{specs.Compiled.foreign_of, proofs.Joins.{foreign_refers, of_text}}
 
 -- a table that is joined is joined by a foreign key of the fact
 pub record AreForeign (js : List Join) : Type 0 where
@@ -15,9 +11,8 @@ pub record AreForeign (js : List Join) : Type 0 where
   pub number : (t : TableId) → joins_table js t ≡ true → is_text (foreign_of js t) ≡ false
   pub references : (t : TableId) → joins_table js t ≡ true → references (foreign_of js t) ≡ Some t
 
-pub each_passes : {A : Type 0} (test : A → Bool) (P : A → Type 0)
-    → ((x : A) → test x ≡ true → P x) → (xs : List A) → list_all test xs ≡ true
-    → AllByRecursion P xs
+pub each_passes : {A : Type 0} (test : A → Bool) (P : A → Type 0) → ((x : A) → test x ≡ true → P x)
+    → (xs : List A) → list_all test xs ≡ true → AllByRecursion P xs
 each_passes test P f [] h = tt
 each_passes test P f (x ∷ xs) h =
     let hs = and_parts (test x) (list_all test xs) h in

@@ -1,22 +1,13 @@
 -- What the form of a comparison comes to in a turn is what the comparison says of the turn's row.
-use Rattle.std.proofs.Common.{◌≡◌, ℕ, Bool, true, false, List, Some, refl, sym, ap, ◌∙◌}
-use Rattle.std.proofs.{lemmas.Bool.and_parts}
-use Rattle.std.specs.Prelude.{ℤ, pos, ◌+ℤ◌, ◌&&◌, not}
-use Rattle.std.specs.{Ordering.int_cmp, Ordering.nat_cmp, Ordering.is_lt, Ordering.is_le, Cmp.Lexicographic.slice_cmp, Cmp.Lexicographic.nat_list_cmp_total}
+use Rattle.std.{proofs.Common.{◌≡◌, ℕ, Bool, true, false, List, Some, refl, sym, ap, ◌∙◌, arith}, proofs.lemmas.Bool.and_parts, specs.Prelude.{ℤ, pos, ◌+ℤ◌, ◌&&◌, not}, specs.Ordering.{int_cmp, nat_cmp, is_lt, is_le}, specs.Cmp.Lexicographic.{slice_cmp, nat_list_cmp_total}, proofs.lemmas.Grind.common_steps, proofs.lemmas.Int.ints}
 use Rattle.star_schema.specs.{declared.column.ColumnId.ColumnId, Order.value_cmp, Schema.kind_of, Tables.kind_of_value}
 use Rattle.star_schema.specs.Tables as held
 use Rattle.star_query.specs.{declared.token.Relation.Relation, Tree.Comparison, Tree.test}
 use Rattle.star_query.specs.declared.token.Relation.TheVariants as sign
 use Rattle.star_plan.specs.{declared.tree.Join.Join, Meaning.Joined, Meaning.holds, Meaning.joined_value, Meaning.tests, Names.same_kind, Sound.comparison_is_sound}
-use Rattle.star_program.specs.declared.value.Value.{Value, TheVariants.Flag, TheVariants.Number, TheVariants.Place, TheVariants.Text}
-use Rattle.star_program.specs.{Effects.answer_of, Effects.compared, Effects.loaded, Values.flag_read, World.World, World.edge_of, World.is_text}
+use Rattle.star_program.specs.{declared.value.Value.Value, declared.value.Value.TheVariants.{Flag, Number, Place, Text}, Effects.{answer_of, compared, loaded}, Values.flag_read, World.{World, edge_of, is_text}}
 use Rattle.star_world.specs.RowsSeen.{IsCodeOf}
-use Rattle.star_compile_laws.proofs.Comparisons.{number_gt, number_ge, number_upto, place_lt, place_le, gt_not_le, ge_not_lt, le_not_lt, eq_both, ne_is}
-use Rattle.star_compile_laws.proofs.Contents.{Form, Limit, after, before, column_tested, comparison_form, edge, ends, equals, form_of, negated, number, operator_of, starts, within}
-use Rattle.star_compile_laws.proofs.{Joins.holds_numbers, Joins.holds_texts, TurnRows.Shows}
-use Rattle.std.proofs.Common.{arith}
-use Rattle.std.proofs.{lemmas.Grind.common_steps}
-use Rattle.std.proofs.lemmas.Int.{ints}
+use Rattle.star_compile_laws.proofs.{Comparisons.{number_gt, number_ge, number_upto, place_lt, place_le, gt_not_le, ge_not_lt, le_not_lt, eq_both, ne_is}, Contents.{Form, Limit, after, before, column_tested, comparison_form, edge, ends, equals, form_of, negated, number, operator_of, starts, within}, Joins.{holds_numbers, holds_texts}, TurnRows.Shows}
 
 module _ (w : World) (c : ColumnId) where
   abbrev pub limit_value : Limit → Value
@@ -104,8 +95,7 @@ module _ (w : World) (c : ColumnId) where
 pub comparison_says : (w : World) (js : List Join) (t : Comparison ColumnId held.Value) (i : ℕ)
     (row : Joined) → comparison_is_sound js t ≡ true
     → Shows w (column_tested t) i (joined_value (column_tested t) row)
-    → form_value w (column_tested t)
-    (loaded w (column_tested t) i (is_text (column_tested t))) (comparison_form t)
-    ≡ Flag (holds (test t) row)
+    → form_value w (column_tested t) (loaded w (column_tested t) i (is_text (column_tested t)))
+    (comparison_form t) ≡ Flag (holds (test t) row)
 comparison_says w js it i row ok shows =
     grind (arith, common_steps, compared_by, and_parts, lies_between)

@@ -1,13 +1,10 @@
 -- The foreign keys of a plan's joins, and what columns hold by their kinds.
-use Rattle.std.proofs.Common.{◌≡◌, Bool, true, false, Some, refl, ap}
-use Rattle.std.proofs.{lemmas.Bool.and_parts}
+use Rattle.std.proofs.{Common.{◌≡◌, Bool, true, false, Some, refl, ap, arith}, lemmas.Bool.and_parts, lemmas.Grind.common_steps}
 use Rattle.star_query_meaning.proofs.Choices.{refers_to}
 use Rattle.star_schema.specs.{declared.column.ColumnId.ColumnId, declared.column.Kind.Kind, Schema.kind_of, Schema.references, Schema.table_of}
 use Rattle.star_schema.specs.declared.column.Kind.TheVariants as kind
 use Rattle.star_plan.specs.{declared.tree.Join.Join, Joins.is_foreign, Names.same_kind}
 use Rattle.star_program.specs.World.{is_text}
-use Rattle.std.proofs.Common.{arith}
-use Rattle.std.proofs.{lemmas.Grind.common_steps}
 
 -- ---- kinds
 

@@ -1,14 +1,10 @@
 -- Groups don't hang on how their keys are coded.
-use Rattle.std.proofs.Common.{◌≡◌, ℕ, zero, suc, ◌+◌, List, [], ◌∷◌, Option, Some, None, refl, sym, ap, subst, ◌∙◌, arith}
+use Rattle.std.{proofs.Common.{◌≡◌, ℕ, zero, suc, ◌+◌, List, [], ◌∷◌, Option, Some, None, refl, sym, ap, subst, ◌∙◌, arith}, specs.Prelude.{pos, ◌&&◌, map, replicate, slice_index_or}, specs.List.{Contains, list_all}, specs.Option.{is_none, option_map}, specs.Ordering.is_eq, specs.declared.cmp.Ordering.Ordering, proofs.lemmas.Grind.common_steps}
 use mathlib.Core.Logic.{inl, inr}
-use Rattle.std.specs.Prelude.{pos, ◌&&◌, map, replicate, slice_index_or}
-use Rattle.std.specs.{List.Contains, List.list_all, Option.is_none, Option.option_map, Ordering.is_eq, declared.cmp.Ordering.Ordering}
 use Rattle.star_common.proofs.Members.{contains_here, contains_later, contains_mapped, from_contains_map}
-use Rattle.star_schema.specs.Groups.{Entry, IsMasked, IsGroup, belongs, is_grouping, members, aggregate, numbers_for, totals_from, GroupRow, AreGroups}
-use Rattle.star_schema.specs.{declared.group.Shape.Shape, declared.group.Shape.TheVariants.Plain, declared.group.Shape.TheVariants.Cube, declared.group.Shape.TheVariants.Rollup, declared.group.Aggregate.Aggregate}
-use Rattle.std.proofs.lemmas.Grind.{common_steps}
+use Rattle.star_schema.specs.{Groups.{Entry, IsMasked, IsGroup, belongs, is_grouping, members, aggregate, numbers_for, totals_from, GroupRow, AreGroups}, declared.group.Shape.Shape, declared.group.Shape.TheVariants.{Plain, Cube, Rollup}, declared.group.Aggregate.Aggregate}
 
--- each key by the function of its place
+-- each key by the function of its position
 abbrev pub applied : {K L : Type 0} → (ℕ → K → L) → List K → List L
 applied f [] = []
 applied f (k ∷ ks) = f 0 k ∷ applied (λ i. f (suc i)) ks
@@ -74,9 +70,8 @@ no_keys f (suc k) = ap (λ l. None ∷ l) (no_keys (λ i. f (suc i)) k)
 
 module _ {K L : Type 0} (same : K → K → Ordering) (also : L → L → Ordering) where
   -- which rows belong to a group of a row
-  belongs_applied : (f : ℕ → K → L) (m : List (Option K)) (ks vs : List K)
-      → IsMasked m ks → Keeps same also f ks vs
-      → belongs also (applied_some f m) (applied f vs) ≡ belongs same m vs
+  belongs_applied : (f : ℕ → K → L) (m : List (Option K)) (ks vs : List K) → IsMasked m ks
+      → Keeps same also f ks vs → belongs also (applied_some f m) (applied f vs) ≡ belongs same m vs
   belongs_applied f [] [] [] h q = refl
   belongs_applied f [] [] (v ∷ vs) h q = absurd q
   belongs_applied f (Some k ∷ m) (x ∷ ks) (v ∷ vs) h q =

@@ -1,16 +1,12 @@
 -- The limits that a plan's comparisons make: of the kinds of their columns, and short enough to be
 -- said.
-use Rattle.std.proofs.Common.{◌≡◌, ℕ, suc, ◌+◌, ◌<◌, ◌^◌, true, List, FitsSigned, w64, arith}
-use Rattle.std.proofs.lemmas.{Int.ints, Bool.and_parts, Bool.lt-ltb, Bool.ltb-true}
-use Rattle.std.specs.Prelude.{ℤ, pos, negsuc, ◌≤ℤ◌, ◌+ℤ◌, ◌&&◌}
+use Rattle.std.{proofs.Common.{◌≡◌, ℕ, suc, ◌+◌, ◌<◌, ◌^◌, true, List, FitsSigned, w64, arith}, proofs.lemmas.Int.ints, proofs.lemmas.Bool.{and_parts, lt-ltb, ltb-true}, specs.Prelude.{ℤ, pos, negsuc, ◌≤ℤ◌, ◌+ℤ◌, ◌&&◌}, proofs.lemmas.Grind.common_steps}
 use Rattle.star_schema.specs.{declared.column.ColumnId.ColumnId, Schema.kind_of, Schema.table_of, Tables.Value, Tables.Number, Tables.Text, Tables.kind_of_value}
 use Rattle.star_interval.specs.Range.{is_i64}
 use Rattle.star_query.specs.{declared.token.Relation.Relation, Spelled.has_few_digits, Tree.Comparison, Tree.compare, Tree.between, Tree.test}
 use Rattle.star_query.specs.declared.token.Relation.TheVariants as sign
 use Rattle.star_plan.specs.{declared.tree.Join.Join, Names.same_kind, Sound.comparison_is_sound, Sound.in_scope, Spelled.condition_is_spelled, Spelled.value_is_spelled}
-use Rattle.star_compile_laws.proofs.Contents.{Form, IsLimit, after, before, column_tested, comparison_form, ends, equals, form_of, negated, starts, within}
-use Rattle.star_compile_laws.proofs.Joins.{holds_numbers, holds_texts}
-use Rattle.std.proofs.lemmas.Grind.{common_steps}
+use Rattle.star_compile_laws.proofs.{Contents.{Form, IsLimit, after, before, column_tested, comparison_form, ends, equals, form_of, negated, starts, within}, Joins.{holds_numbers, holds_texts}}
 
 -- ---- what a plan's numbers and texts are
 

@@ -1,17 +1,14 @@
 -- Why the columns that a program loads and the constants of its conditions must be of 64 bits, so
 -- that a query that fits is accepted: the query is asked only for what it aggregates.
-use Rattle.std.proofs.Common.{◌≡◌, ◌^◌, [], ◌∷◌, Some, refl, arith}
-use Rattle.std.specs.Prelude.{pos, codes}
+use Rattle.std.{proofs.Common.{◌≡◌, ◌^◌, [], ◌∷◌, Some, refl, arith}, specs.Prelude.{pos, codes}}
 use Rattle.star_common.specs.First.{first_answer}
 use Rattle.star_schema.specs.{declared.column.ColumnId.TheVariants.LoTax, declared.group.Shape.TheVariants.Plain, declared.group.GroupColumn.TheVariants.Aggregate, Schema.column_of, Tables.Number}
 use Rattle.star_interval.specs.Range.{Range, is_i64}
 use Rattle.star_query.specs.{declared.token.Relation.TheVariants.Less, Tree.count}
 use Rattle.star_plan.specs.{Meaning.Plan, Fits.Fits}
-use Rattle.star_compile_laws.proofs.PlanWords.{compare}
-use Rattle.star_program.specs.World.{World}
-use Rattle.star_program.proofs.Sample.{sample}
+use Rattle.star_compile_laws.{proofs.PlanWords.compare, specs.Compiled.compiled}
+use Rattle.star_program.{specs.World.World, proofs.Sample.sample}
 use Rattle.star_safety.specs.{Admissible.Refused, Admissible.first_refusal, Refusals.reached, declared.reason.Reason.TheVariants.Overflow}
-use Rattle.star_compile_laws.specs.Compiled.{compiled}
 
 -- ---- bounds
 

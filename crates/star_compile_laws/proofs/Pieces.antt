@@ -1,20 +1,11 @@
 -- A law of a turn by one induction over the pieces of a compiled program: it holds of a piece where
 -- it holds of what follows the piece, at each point that the piece can come to.
-use Rattle.std.proofs.Common.{◌≡◌, ℕ, ◌+◌, Bool, true, false, List, [], ◌∷◌, Option, Some, None, map, refl, subst, arith}
-use Rattle.std.proofs.{lemmas.Bool.and_parts, lemmas.Grind.common_steps}
-use Rattle.std.specs.{Prelude.◌&&◌, Prelude.◌||◌, List.list_all}
-use Rattle.star_schema.specs.{declared.table.TableId.TableId, declared.table.TableId.TheVariants.Lineorder, declared.column.ColumnId.ColumnId, Schema.is_table, Schema.kind_of, Schema.table_of, Tables.Value}
-use Rattle.star_schema.proofs.Same.{column_same, table_same}
+use Rattle.std.{proofs.Common.{◌≡◌, ℕ, ◌+◌, Bool, true, false, List, [], ◌∷◌, Option, Some, None, map, refl, subst, arith}, proofs.lemmas.Bool.and_parts, proofs.lemmas.Grind.common_steps, specs.Prelude.{◌&&◌, ◌||◌}, specs.List.list_all}
+use Rattle.star_schema.{specs.declared.table.TableId.TableId, specs.declared.table.TableId.TheVariants.Lineorder, specs.declared.column.ColumnId.ColumnId, specs.Schema.{is_table, kind_of, table_of}, specs.Tables.Value, proofs.Same.{column_same, table_same}}
 use Rattle.star_query.specs.Tree.{Comparison, Expression, Measure, column, constant, add, sub, mul, or, and, not, test, count, fold}
-use Rattle.star_plan.specs.Sound.{IsSoundPlan, column_is_sound, comparison_is_sound, condition_is_sound, expression_is_sound, in_scope, joins_table, measure_is_sound}
-use Rattle.star_plan.specs.{declared.tree.Join.Join, Meaning.Plan, Meaning.RowCondition, Names.same_kind, Spelled.IsSpelledPlan, Spelled.condition_is_spelled, Spelled.expression_is_spelled, Spelled.measure_is_spelled}
-use Rattle.star_program.specs.declared.op.Operation.TheVariants.{Binary, Const, Find, Load, Not, Within}
-use Rattle.star_program.specs.{declared.op.Op.TheVariants.Assign, declared.op.Op.TheVariants.Keep, declared.op.Op.TheVariants.Put, declared.op.Operation.Operation, declared.op.Operator.Operator, Code.Code, Code.Stop, Code.Then, World.is_column}
-use Rattle.star_compile_laws.specs.Compiled.{Env, Rest, one_before, beside, binary_code, column_code, column_from, condition_code, conjuncts_code, env_first, expression_code, fact_code, foreign_of, keys_code, load_code, register_in, one_more, place_code, row_code, turn_code, values_code}
-use Rattle.star_compile_laws.specs.Compiled.{with_found, with_loaded, write}
-use Rattle.star_compile_laws.proofs.Contents.{AllHold, Content, Form, IsLimit, Limit, Makes, OfColumn, OfCondition, OfExpression, OfLimit, OfRow, OfTest, adds, after, all_kept, before, both, column_tested, comparison_code, comparison_form, constant_made, denies, either, fails, finds}
-use Rattle.star_compile_laws.proofs.Contents.{form_code, has_form, is_after, is_before, is_within, limit_of, limits, loads, multiplies, negated, numbers_put, operator_of, subtracts, tested_code, within}
-use Rattle.star_compile_laws.proofs.{Entries.entry_added, ForeignKeys.AreForeign, ForeignKeys.are_foreign, Limits.IsForm, Limits.form_is_fit, Limits.tested_in_scope}
+use Rattle.star_plan.specs.{Sound.{IsSoundPlan, column_is_sound, comparison_is_sound, condition_is_sound, expression_is_sound, in_scope, joins_table, measure_is_sound}, declared.tree.Join.Join, Meaning.{Plan, RowCondition}, Names.same_kind, Spelled.{IsSpelledPlan, condition_is_spelled, expression_is_spelled, measure_is_spelled}}
+use Rattle.star_program.specs.{declared.op.Operation.TheVariants.{Binary, Const, Find, Load, Not, Within}, declared.op.Op.TheVariants.{Assign, Keep, Put}, declared.op.Operation.Operation, declared.op.Operator.Operator, Code.{Code, Stop, Then}, World.is_column}
+use Rattle.star_compile_laws.{specs.Compiled.{Env, Rest, one_before, beside, binary_code, column_code, column_from, condition_code, conjuncts_code, env_first, expression_code, fact_code, foreign_of, keys_code, load_code, register_in, one_more, place_code, row_code, turn_code, values_code, with_found, with_loaded, write}, proofs.Contents.{AllHold, Content, Form, IsLimit, Limit, Makes, OfColumn, OfCondition, OfExpression, OfLimit, OfRow, OfTest, adds, after, all_kept, before, both, column_tested, comparison_code, comparison_form, constant_made, denies, either, fails, finds, form_code, has_form, is_after, is_before, is_within, limit_of, limits, loads, multiplies, negated, numbers_put, operator_of, subtracts, tested_code, within}, proofs.Entries.entry_added, proofs.ForeignKeys.{AreForeign, are_foreign}, proofs.Limits.{IsForm, form_is_fit, tested_in_scope}}
 use Rattle.star_schema.specs.declared.column.Kind.TheVariants as kind
 use Rattle.star_program.specs.declared.op.Operator.TheVariants as operator
 
@@ -53,8 +44,7 @@ module _ {p : Plan} (law : Law p) where
     pub step : (g : law.Grade) (n : ℕ) (a : law.Point) (o : Operation) (x : Content) (rest : Code)
         → Makes p.joins law.Sound law.Spelled (law.Holds n a) o x
         → ((b : law.Point) → Stays n a (n + 1) b → law.Holds (n + 1) b n x
-        → law.Fact g (n + 1) b rest)
-        → law.Fact (made law.node x g) n a (Then (Assign n o) rest)
+        → law.Fact g (n + 1) b rest) → law.Fact (made law.node x g) n a (Then (Assign n o) rest)
     pub column : (g : law.Grade) (n : ℕ) (a : law.Point) (c : ColumnId) (r : ℕ) (code : Code)
         → (law.Sound → column_is_sound p.joins kind.Number c ≡ true) → law.Holds n a r (OfColumn c)
         → (law.Holds n a r (OfExpression (column c)) → law.Fact g n a code)
@@ -96,7 +86,7 @@ module _ {p : Plan} (law : Law p) where
     foreign s = are_foreign js (sound s).joins
 
     -- a point, with what is known there of the columns that are loaded and the rows that are found
-    record Place : Type 0 where
+    record Position : Type 0 where
       env : Env
       point : law.Point
       fact : law.Holds env.next point 0 (OfRow Lineorder)
@@ -105,36 +95,37 @@ module _ {p : Plan} (law : Law p) where
       rows : (t : TableId) (r : ℕ) → register_in is_table env.found t ≡ Some r
           → law.Holds env.next point r (OfRow t)
 
-    abbrev At : Content → Place → ℕ → Type 0
+    abbrev At : Content → Position → ℕ → Type 0
     At x a r = law.Holds a.env.next a.point r x
 
-    abbrev Fact : law.Grade → Place → Code → Type 0
+    abbrev Fact : law.Grade → Position → Code → Type 0
     Fact g a code = law.Fact g a.env.next a.point code
 
-    abbrev MakesAt : Place → Operation → Content → Type 0
+    abbrev MakesAt : Position → Operation → Content → Type 0
     MakesAt a o x = Makes js law.Sound law.Spelled (law.Holds a.env.next a.point) o x
 
-    abbrev Onward : Place → Place → Type 0
+    abbrev Onward : Position → Position → Type 0
     Onward a b = (r : ℕ) (x : Content) → At x a r → At x b r
 
     -- the law holds of what follows, whatever result of this kind it is given
-    abbrev Follows : {A : Type 0} → law.Grade → Place → (Place → A → Type 0) → (Env → A → Code)
-        → Type 0
-    Follows {A} g a Says k = (b : Place) (r : A) → Onward a b → Says b r → Fact g b (k b.env r)
+    abbrev Follows : {A : Type 0} → law.Grade → Position → (Position → A → Type 0)
+        → (Env → A → Code) → Type 0
+    Follows {A} g a Says k = (b : Position) (r : A) → Onward a b → Says b r → Fact g b (k b.env r)
 
     -- and so of a piece before it
-    abbrev Carries : {A : Type 0} → (law.Grade → law.Grade) → (Place → A → Type 0)
+    abbrev Carries : {A : Type 0} → (law.Grade → law.Grade) → (Position → A → Type 0)
         → (Env → (Env → A → Code) → Code) → Type 0
-    Carries {A} f Says piece = (g : law.Grade) (a : Place) (k : Env → A → Code) → Follows g a Says k
+    Carries {A} f Says piece = (g : law.Grade) (a : Position) (k : Env → A → Code)
+        → Follows g a Says k
         → Fact (f g) a (piece a.env k)
 
-    later : {A : Type 0} (g : law.Grade) (a b : Place) (Says : Place → A → Type 0)
+    later : {A : Type 0} (g : law.Grade) (a b : Position) (Says : Position → A → Type 0)
         (k : Env → A → Code) → Onward a b → Follows g a Says k → Follows g b Says k
     later g a b Says k on h c r more says = h c r (λ q x at. more q x (on q x at)) says
 
     -- ---- instructions
 
-    abbrev moved : (a : Place) (n : ℕ) (q : law.Point) → Stays a.env.next a.point n q → Place
+    abbrev moved : (a : Position) (n : ℕ) (q : law.Point) → Stays a.env.next a.point n q → Position
     moved a n q stays = record {
       env = record a.env { next = n };
       point = q;
@@ -143,14 +134,14 @@ module _ {p : Plan} (law : Law p) where
       rows = λ t r e. stays r (OfRow t) (a.rows t r e);
     }
 
-    of_write : (o : Operation) (x : Content) (g : law.Grade) (a : Place) (k : Rest ℕ)
+    of_write : (o : Operation) (x : Content) (g : law.Grade) (a : Position) (k : Rest ℕ)
         → MakesAt a o x → Follows g a (At x) k → Fact (made law.node x g) a (write o a.env k)
     of_write o x g a k makes h =
         it.step g a.env.next a.point o x (k (one_more a.env) a.env.next) makes
         (λ q stays new. h (moved a (a.env.next + 1) q stays) a.env.next stays new)
 
     of_load : (c : ColumnId) (t : TableId) (row : ℕ) → (law.Sound → table_of c ≡ t)
-        → (g : law.Grade) (a : Place) (k : Rest ℕ) → At (OfRow t) a row
+        → (g : law.Grade) (a : Position) (k : Rest ℕ) → At (OfRow t) a row
         → Follows g a (At (OfColumn c)) k → Fact g a (load_code c row a.env k)
     of_load c t row of g a k at h =
         let n = a.env.next in
@@ -167,7 +158,7 @@ module _ {p : Plan} (law : Law p) where
         }) n stays new)
 
     of_find : (t : TableId) → (law.Sound → joins_table js t ≡ true) → (key : ℕ) (g : law.Grade)
-        (a : Place) (k : Rest ℕ) → At (OfColumn (foreign_of js t)) a key
+        (a : Position) (k : Rest ℕ) → At (OfColumn (foreign_of js t)) a key
         → Follows g a (At (OfRow t)) k → Fact g a
         (Then (Assign a.env.next (Find t key)) (k (with_found a.env t) a.env.next))
     of_find t joined key g a k at h =
@@ -186,13 +177,13 @@ module _ {p : Plan} (law : Law p) where
 
     -- ---- columns
 
-    of_fact : (c : ColumnId) → (law.Sound → table_of c ≡ Lineorder) → (g : law.Grade) (a : Place)
+    of_fact : (c : ColumnId) → (law.Sound → table_of c ≡ Lineorder) → (g : law.Grade) (a : Position)
         (k : Rest ℕ) (o : Option ℕ) → register_in is_column a.env.loaded c ≡ o
         → Follows g a (At (OfColumn c)) k → Fact g a (fact_code c a.env k o)
     of_fact c of g a k (Some r) e h = h a r (λ q x at. at) (a.columns c r e)
     of_fact c of g a k None e h = of_load c Lineorder 0 of g a k a.fact h
 
-    of_row : (t : TableId) → (law.Sound → joins_table js t ≡ true) → (g : law.Grade) (a : Place)
+    of_row : (t : TableId) → (law.Sound → joins_table js t ≡ true) → (g : law.Grade) (a : Position)
         (k : Rest ℕ) (o : Option ℕ) → register_in is_table a.env.found t ≡ o
         → Follows g a (At (OfRow t)) k → Fact g a (row_code js t a.env k o)
     of_row t joined g a k (Some r) e h = h a r (λ q x at. at) (a.rows t r e)
@@ -203,7 +194,7 @@ module _ {p : Plan} (law : Law p) where
         (register_in is_column a.env.loaded c) refl
         (λ b r on at. of_find t joined r g b k at (later g a b (At (OfRow t)) k on h))
 
-    of_place : (c : ColumnId) (g : law.Grade) (a : Place) (k : Rest ℕ) (b : Bool)
+    of_place : (c : ColumnId) (g : law.Grade) (a : Position) (k : Rest ℕ) (b : Bool)
         → is_table (table_of c) Lineorder ≡ b
         → (law.Sound → (b || joins_table js (table_of c)) ≡ true)
         → Follows g a (At (OfColumn c)) k → Fact g a (place_code js c a.env k b)
@@ -215,7 +206,7 @@ module _ {p : Plan} (law : Law p) where
         (later g a b (At (OfColumn c)) k on h))
 
     of_column_from : (c : ColumnId) → (law.Sound → in_scope js (table_of c) ≡ true)
-        → (g : law.Grade) (a : Place) (k : Rest ℕ) (o : Option ℕ)
+        → (g : law.Grade) (a : Position) (k : Rest ℕ) (o : Option ℕ)
         → register_in is_column a.env.loaded c ≡ o
         → Follows g a (At (OfColumn c)) k → Fact g a (column_from js c a.env k o)
     of_column_from c ok g a k it e h = grind (arith, common_steps, of_place)
@@ -228,7 +219,7 @@ module _ {p : Plan} (law : Law p) where
 
     of_two : (x y z : Content) (left right : Env → Rest ℕ → Code) (o : Operator)
         (f f' : law.Grade → law.Grade) → Carries f (At x) left → Carries f' (At y) right
-        → ((a : Place) (l r : ℕ) → At x a l → At y a r → MakesAt a (Binary o l r) z)
+        → ((a : Position) (l r : ℕ) → At x a l → At y a r → MakesAt a (Binary o l r) z)
         → Carries (λ g. f (f' (made law.node z g))) (At z) (binary_code left right o)
     of_two x y z left right o f f' first second makes g a k h =
         first (f' (made law.node z g)) a (λ e x. right e (λ e y. write (Binary o x y) e k))
@@ -236,7 +227,7 @@ module _ {p : Plan} (law : Law p) where
         (λ c r more at_r. of_write (Binary o l r) z g c k (makes c l r (more l x at_l) at_r)
         (later g a c (At z) k (λ q x at. more q x (on q x at)) h)))
 
-    abbrev AllAt : List Content → Place → List ℕ → Type 0
+    abbrev AllAt : List Content → Position → List ℕ → Type 0
     AllAt xs a rs = AllHold (law.Holds a.env.next a.point) xs rs
 
     of_before : (x : Content) (xs : List Content) (first : Env → Rest ℕ → Code)
@@ -252,8 +243,8 @@ module _ {p : Plan} (law : Law p) where
     -- ---- conditions
 
     of_beside : (c : ColumnId) (l : Limit) (used : ℕ → Operation) (f : Form)
-        → IsLimit law.Sound law.Spelled c l → (g : law.Grade) (a : Place) (k : Rest ℕ)
-        → ((b : Place) (m : ℕ) → Onward a b → At (OfLimit c l) b m
+        → IsLimit law.Sound law.Spelled c l → (g : law.Grade) (a : Position) (k : Rest ℕ)
+        → ((b : Position) (m : ℕ) → Onward a b → At (OfLimit c l) b m
         → MakesAt b (used m) (OfTest c f))
         → Follows g a (At (OfTest c f)) k → Fact g a (beside (limit_of c l) used a.env k)
     of_beside c l used f fits g a k makes h =
@@ -262,7 +253,7 @@ module _ {p : Plan} (law : Law p) where
         (later g a b (At (OfTest c f)) k on h))
 
     of_form : (c : ColumnId) (f : Form) (x : ℕ) → IsForm law.Sound law.Spelled c f
-        → (g : law.Grade) (a : Place) (k : Rest ℕ)
+        → (g : law.Grade) (a : Position) (k : Rest ℕ)
         → At (OfColumn c) a x → Follows g a (At (OfTest c f)) k → Fact g a (form_code c x f a.env k)
     of_form c (before o l) x fits g a k at h =
         of_beside c l (λ n. Binary (operator_of o) x n) (before o l) fits g a k
@@ -282,7 +273,7 @@ module _ {p : Plan} (law : Law p) where
 
     of_comparison : (t : Comparison ColumnId Value) (x : ℕ)
         → (law.Sound → comparison_is_sound js t ≡ true)
-        → (law.Spelled → condition_is_spelled (test t) ≡ true) → (g : law.Grade) (a : Place)
+        → (law.Spelled → condition_is_spelled (test t) ≡ true) → (g : law.Grade) (a : Position)
         (k : Rest ℕ) → At (OfColumn (column_tested t)) a x
         → Follows g a (At (OfCondition (test t))) k → Fact g a (comparison_code x t a.env k)
     of_comparison t x ok said g a k at h = subst (Fact g a) (has_form x t a.env k)
@@ -321,8 +312,8 @@ module _ {p : Plan} (law : Law p) where
 
     of_conjuncts : (ds : List RowCondition)
         → (law.Sound → list_all (condition_is_sound js) ds ≡ true)
-        → (law.Spelled → list_all condition_is_spelled ds ≡ true) → (g : law.Grade) (a : Place)
-        (k : Env → Code) → ((b : Place) → Onward a b → Fact g b (k b.env))
+        → (law.Spelled → list_all condition_is_spelled ds ≡ true) → (g : law.Grade) (a : Position)
+        (k : Env → Code) → ((b : Position) → Onward a b → Fact g b (k b.env))
         → Fact (conjuncts_grade ds g) a (conjuncts_code js ds a.env k)
     of_conjuncts [] ok said g a k h = h a (λ r x at. at)
     of_conjuncts (d ∷ ds) ok said g a k h =

@@ -1,12 +1,8 @@
 -- Plans of worked queries.
-use Rattle.std.proofs.Common.{ℕ, List, [], ◌∷◌}
-use Rattle.std.specs.Prelude.{pos, negsuc, codes}
-use Rattle.star_schema.specs.declared.{column.ColumnId.ColumnId, group.Direction.TheVariants.Ascending, group.Direction.TheVariants.Descending, group.Shape.TheVariants.Plain, group.Shape.TheVariants.Cube, group.GroupColumn.GroupColumn, group.GroupColumn.TheVariants.Key, group.GroupColumn.TheVariants.Aggregate, group.SortKey.SortKey}
-use Rattle.star_schema.specs.declared.column.ColumnId.TheVariants.{CCity, CCustkey, CNation, CRegion, DDatekey, DMonth, DWeeknuminyear, DYear, DYearmonth, DYearmonthnum, LoCommitdate, LoCustkey, LoDiscount, LoExtendedprice, LoOrderdate, LoPartkey, LoQuantity, LoRevenue, LoShipmode, LoSuppkey, LoSupplycost, LoTax, PBrand1, PCategory, PMfgr, PPartkey, SCity, SNation, SRegion, SSuppkey}
-use Rattle.star_schema.specs.Tables.{Value, Number, Text}
-use Rattle.star_query.specs.declared.token.Relation.TheVariants.{Equal, Unequal, Less, AtMost, Greater, AtLeast}
+use Rattle.std.{proofs.Common.{ℕ, List, [], ◌∷◌}, specs.Prelude.{pos, negsuc, codes}}
+use Rattle.star_schema.specs.{declared.column.ColumnId.ColumnId, declared.group.Direction.TheVariants.{Ascending, Descending}, declared.group.Shape.TheVariants.{Plain, Cube}, declared.group.GroupColumn.GroupColumn, declared.group.GroupColumn.TheVariants.{Key, Aggregate}, declared.group.SortKey.SortKey, declared.column.ColumnId.TheVariants.{CCity, CCustkey, CNation, CRegion, DDatekey, DMonth, DWeeknuminyear, DYear, DYearmonth, DYearmonthnum, LoCommitdate, LoCustkey, LoDiscount, LoExtendedprice, LoOrderdate, LoPartkey, LoQuantity, LoRevenue, LoShipmode, LoSuppkey, LoSupplycost, LoTax, PBrand1, PCategory, PMfgr, PPartkey, SCity, SNation, SRegion, SSuppkey}, Tables.{Value, Number, Text}}
+use Rattle.star_query.specs.{declared.token.Relation.TheVariants.{Equal, Unequal, Less, AtMost, Greater, AtLeast}, Tree.{column, constant, add, sub, mul, or, and, not, count}}
 use Rattle.star_plan.specs.{declared.tree.Join.Join, Meaning.Plan, Meaning.RowCondition}
-use Rattle.star_query.specs.Tree.{column, constant, add, sub, mul, or, and, not, count}
 use Rattle.star_compile_laws.proofs.PlanWords.{compare, between, summed, least, greatest}
 
 abbrev number : ℕ → Value

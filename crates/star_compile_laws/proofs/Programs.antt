@@ -1,25 +1,16 @@
 -- A compiled plan is a program: within the limits, of a report that is there, and one that a text
 -- spells.
-use Rattle.std.proofs.Common.{◌≡◌, ℕ, zero, suc, ◌+◌, ◌≤◌, ◌<◌, Bool, true, false, ◌||◌, ◌==◌, List, [], ◌∷◌, ◌++◌, length, map, Option, Some, None, All, refl, ap, ◌∙◌, arith}
-use Rattle.std.specs.{Prelude.nat_lt, Prelude.nat_le, Prelude.slice_index_or, Prelude.if◌then◌else◌, Int.is_in_range, List.list_all}
-use Rattle.std.proofs.lemmas.Bool.{and_parts, and_from, or_right, lt-ltb, ltb-true, le-leb}
-use Rattle.std.proofs.lemmas.List.{length-map, Elements.All-nil, Elements.All-cons, Elements.All-append, Elements.All-map, Folds.list_all-append}
-use Rattle.star_schema.specs.declared.{column.ColumnId.ColumnId, column.ColumnId.TheVariants.DDatekey, group.GroupColumn.GroupColumn, group.SortKey.SortKey}
+use Rattle.std.{proofs.Common.{◌≡◌, ℕ, zero, suc, ◌+◌, ◌≤◌, ◌<◌, Bool, true, false, ◌||◌, ◌==◌, List, [], ◌∷◌, ◌++◌, length, map, Option, Some, None, All, refl, ap, ◌∙◌, arith}, specs.Prelude.{nat_lt, nat_le, slice_index_or, if◌then◌else◌}, specs.Int.is_in_range, specs.List.list_all, proofs.lemmas.Bool.{and_parts, and_from, or_right, lt-ltb, ltb-true, le-leb}, proofs.lemmas.List.length-map, proofs.lemmas.List.Elements.{All-nil, All-cons, All-append, All-map}, proofs.lemmas.List.Folds.list_all-append, proofs.lemmas.Grind.common_steps}
+use Rattle.star_schema.specs.{declared.column.ColumnId.ColumnId, declared.column.ColumnId.TheVariants.DDatekey, declared.group.GroupColumn.GroupColumn, declared.group.SortKey.SortKey, Schema.{column_name, column_of}}
 use Rattle.star_schema.specs.declared.group.GroupColumn.TheVariants as group
-use Rattle.star_schema.specs.Schema.{column_name, column_of}
 use Rattle.star_query.specs.Tokens.{begins_with_letter, is_word_byte}
 use Rattle.star_query.specs.Spelled as asked
 use Rattle.star_plan.specs.{Meaning.aggregate_of, Meaning.Plan, Limits.IsPlanWithinLimits, Sound.IsSoundPlan, Sound.is_group_column, Spelled.IsSpelledPlan}
-use Rattle.star_program.specs.{declared.group.GroupDecl.GroupDecl, declared.program.Show.Show, Code.code_size, Code.Code, Code.Stop, Code.Then, Code.Each}
+use Rattle.star_program.specs.{declared.group.GroupDecl.GroupDecl, declared.program.Show.Show, Code.{code_size, Code, Stop, Then, Each}, Limits.{IsSmall, IsWithinLimits}, Text.Numerals.{is_show_name, is_name_byte}, Text.Spellable.{IsKey, IsShortColumn, IsSayable, IsSpellable}, ShowLines.{has_column, first_unshown, named_columns, reports, shown_fault}, Text.Statements.{Line, line, lines_of_code, show_line, sort_line, lines_of_program}}
 use Rattle.star_program.specs.declared.group.GroupKey.TheVariants as key
-use Rattle.star_program.specs.{Limits.IsSmall, Limits.IsWithinLimits, Text.Numerals.is_show_name, Text.Numerals.is_name_byte, Text.Spellable.IsKey, Text.Spellable.IsShortColumn, Text.Spellable.IsSayable, Text.Spellable.IsSpellable}
 use Rattle.star_program.specs.declared.spelling.statement.Statement.TheVariants as says
-use Rattle.star_program.specs.ShowLines.{has_column, first_unshown, named_columns, reports, shown_fault}
-use Rattle.star_program.specs.Text.Statements.{Line, line, lines_of_code, show_line, sort_line, lines_of_program}
-use Rattle.star_compile_laws.specs.Compiled.{compiled, body_code, turn_code, plan_group, key_of_group, plan_show}
+use Rattle.star_compile_laws.{specs.Compiled.{compiled, body_code, turn_code, plan_group, key_of_group, plan_show}, proofs.Flat.{turn_is_flat, flat_depth}, proofs.Sizes.{body_size, registers_size}, proofs.Sayable.{Spelled, turn_spelled}}
 use Rattle.star_query_meaning.specs.Answers.{shown_name}
-use Rattle.star_compile_laws.proofs.{Flat.turn_is_flat, Flat.flat_depth, Sizes.body_size, Sizes.registers_size, Sayable.Spelled, Sayable.turn_spelled}
-use Rattle.std.proofs.lemmas.Grind.{common_steps}
 
 -- ---- limits
 
@@ -113,18 +104,18 @@ unfolding column_of is_show_name
 column_named DDatekey = refl
 column_named _ = refl
 
-at_place : {A : Type 0} (test : A → Bool) (xs : List A) (n : ℕ) (d : A) → list_all test xs ≡ true
+at_position : {A : Type 0} (test : A → Bool) (xs : List A) (n : ℕ) (d : A) → list_all test xs ≡ true
     → n < length xs → test (slice_index_or xs n d) ≡ true
-at_place test [] n d h below = absurd (omega arith)
-at_place test (x ∷ xs) zero d h below = (and_parts (test x) (list_all test xs) h).0
-at_place test (x ∷ xs) (suc n) d h below =
-    at_place test xs n d (and_parts (test x) (list_all test xs) h).1 (omega arith)
+at_position test [] n d h below = absurd (omega arith)
+at_position test (x ∷ xs) zero d h below = (and_parts (test x) (list_all test xs) h).0
+at_position test (x ∷ xs) (suc n) d h below =
+    at_position test xs n d (and_parts (test x) (list_all test xs) h).1 (omega arith)
 
 shown_named : (p : Plan) → IsSoundPlan p → IsSpelledPlan p → (c : GroupColumn)
     → is_group_column (length p.keys) (length p.measures) c ≡ true
     → is_show_name (shown_name p c) ≡ true
 shown_named p sound spelled it h =
-    grind (arith, common_steps, column_named, ltb-true, name_said, at_place)
+    grind (arith, common_steps, column_named, ltb-true, name_said, at_position)
 
 -- ---- statements
 

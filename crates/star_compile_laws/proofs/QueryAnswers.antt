@@ -1,21 +1,16 @@
 -- The answers of plans are those of their queries.
-use Rattle.std.proofs.{Common.ℕ, Common.List, Common.refl, Common.◌∙◌, lemmas.List.Sorted.length_permutation}
-use Rattle.std.specs.Prelude.{All}
+use Rattle.std.{proofs.Common.{ℕ, List, refl, ◌∙◌}, proofs.lemmas.List.Sorted.length_permutation, specs.Prelude.All}
 use Rattle.star_schema.specs.{declared.table.TableId.TableId, Database.Database, Database.rows_in, Loadable.IsSound, Tables.IsRowOf}
 use Rattle.star_query.specs.{Derives.Means, Tree.Tree}
-use Rattle.star_plan.specs.{Meaning.Plan, Meaning.plan_rows, Resolved.IsResolved, WellNamed.IsWellNamed}
-use Rattle.star_plan.proofs.{Conditions.no_fault, Kept.kept_sound}
+use Rattle.star_plan.{specs.Meaning.{Plan, plan_rows}, specs.Resolved.IsResolved, specs.WellNamed.IsWellNamed, proofs.Conditions.no_fault, proofs.Kept.kept_sound}
 use Rattle.star_program.specs.World.{World}
-use Rattle.star_query_meaning.specs.Rows.{selected}
-use Rattle.star_query_meaning.proofs.OwnWords.{own_answer, selected_reordered}
+use Rattle.star_query_meaning.{specs.Rows.selected, proofs.OwnWords.{own_answer, selected_reordered}}
 use Rattle.star_world.specs.{RowsSeen.IsWorldOf, WorldOf.world_of}
-use Rattle.star_compile_laws.specs.{Answers.AnswersTheQuery, Answers.ReportsTheQuery, Counts.CountsTheRows}
-use Rattle.star_compile_laws.proofs.{Answered.answers_the_plan, Rows.counts_the_rows, SeenRows.sees}
+use Rattle.star_compile_laws.{specs.Answers.{AnswersTheQuery, ReportsTheQuery}, specs.Counts.CountsTheRows, proofs.Answered.answers_the_plan, proofs.Rows.counts_the_rows, proofs.SeenRows.sees}
 
 pub answers_the_query : (database : Database) (w : World) (query : Tree) (p : Plan)
-    → ((t : TableId) → All (IsRowOf t) (rows_in database t))
-    → IsWorldOf database w → IsWellNamed query → IsResolved query p
-    → AnswersTheQuery (rows_in database) w query p
+    → ((t : TableId) → All (IsRowOf t) (rows_in database t)) → IsWorldOf database w
+    → IsWellNamed query → IsResolved query p → AnswersTheQuery (rows_in database) w query p
 answers_the_query database w query p rows world named resolved may s outcome run told =
     let sound = kept_sound query p (no_fault query named) resolved in
     own_answer (rows_in database) query p named resolved outcome.names outcome.rows
@@ -23,9 +18,8 @@ answers_the_query database w query p rows world named resolved may s outcome run
     told)
 
 pub counts_the_rows_of_the_query : (database : Database) (w : World) (query : Tree) (p : Plan)
-    → ((t : TableId) → All (IsRowOf t) (rows_in database t))
-    → IsWorldOf database w → IsWellNamed query → IsResolved query p
-    → CountsTheRows (rows_in database) w query p
+    → ((t : TableId) → All (IsRowOf t) (rows_in database t)) → IsWorldOf database w
+    → IsWellNamed query → IsResolved query p → CountsTheRows (rows_in database) w query p
 counts_the_rows_of_the_query database w query p rows world named resolved may s run =
     let sound = kept_sound query p (no_fault query named) resolved in
     let ts = rows_in database in

@@ -1,21 +1,11 @@
 -- The joined rows are the fact's rows, each with the rows that are found for it.
-use Rattle.std.proofs.Common.{◌≡◌, ℕ, zero, suc, ◌+◌, ◌<◌, Bool, true, false, List, [], ◌∷◌, ◌++◌, length, Option, Some, None, refl, sym, ap, subst, ◌∙◌, arith, append-nil, zero-add, cond}
+use Rattle.std.{proofs.Common.{◌≡◌, ℕ, zero, suc, ◌+◌, ◌<◌, Bool, true, false, List, [], ◌∷◌, ◌++◌, length, Option, Some, None, refl, sym, ap, subst, ◌∙◌, arith, append-nil, zero-add, cond}, proofs.lemmas.Bool.{and_parts, cond-true, cond-false, false_from_ne_true, true≢false}, proofs.lemmas.List.length-map, proofs.lemmas.List.Sums.sum_by-cons, proofs.lemmas.Cmp.tied_itself, proofs.lemmas.Grind.common_steps, specs.Prelude.{ℤ, ◌||◌, map, filter, if◌then◌else◌, unwrap_or}, specs.List.{flat_map, AllByRecursion, sum_by}, specs.Ordering.is_eq, specs.Cmp.int_cmp_total, proofs.lemmas.Int.ints}
 use mathlib.Core.List.{reverse_aux, map-map}
-use Rattle.std.proofs.lemmas.Bool.{and_parts, cond-true, cond-false, false_from_ne_true, true≢false}
-use Rattle.std.proofs.{lemmas.List.length-map, lemmas.List.Sums.sum_by-cons, lemmas.Cmp.tied_itself, lemmas.Grind.common_steps}
-use Rattle.std.specs.Prelude.{ℤ, ◌||◌, map, filter, if◌then◌else◌, unwrap_or}
-use Rattle.std.specs.{List.flat_map, List.AllByRecursion, List.sum_by, Ordering.is_eq, Cmp.int_cmp_total}
-use Rattle.star_schema.specs.{declared.table.TableId.TableId, declared.table.TableId.TheVariants.Lineorder, declared.column.ColumnId.ColumnId, Order.value_cmp, Schema.is_table, Schema.key_of, Schema.table_of, Tables.Value, Tables.Number, Tables.Text}
-use Rattle.star_schema.proofs.{KeyColumns.foreign_key, Same.table_same}
-use Rattle.star_plan.specs.Meaning.{Row, Tables, Joined, value_in, joined_value, with_row, only_row, matches, partners, joined_rows, all_hold, plan_rows, Plan}
-use Rattle.star_plan.specs.{declared.tree.Join.Join, Joins.is_foreign, Joins.is_lone_key, Sound.joins_table, Sound.IsSoundPlan}
-use Rattle.star_program.specs.Run.{End, Ended, unless_unshown, meaning_of, run_while}
-use Rattle.star_program.specs.{World.World, World.IsRowNumberOf, World.is_text, Values.no_registers, Effects.State, Effects.empty_state, ShowLines.shown_fault}
+use Rattle.star_schema.{specs.declared.table.TableId.TableId, specs.declared.table.TableId.TheVariants.Lineorder, specs.declared.column.ColumnId.ColumnId, specs.Order.value_cmp, specs.Schema.{is_table, key_of, table_of}, specs.Tables.{Value, Number, Text}, proofs.KeyColumns.foreign_key, proofs.Same.table_same}
+use Rattle.star_plan.specs.{Meaning.{Row, Tables, Joined, value_in, joined_value, with_row, only_row, matches, partners, joined_rows, all_hold, plan_rows, Plan}, declared.tree.Join.Join, Joins.{is_foreign, is_lone_key}, Sound.{joins_table, IsSoundPlan}}
+use Rattle.star_program.specs.{Run.{End, Ended, unless_unshown, meaning_of, run_while}, World.{World, IsRowNumberOf, is_text}, Values.no_registers, Effects.{State, empty_state}, ShowLines.shown_fault}
 use Rattle.star_query_meaning.proofs.{Choices.IsStar, Choices.is_star, Choices.no_key_of_fact, Choices.table_turned, OwnTables.among_dimensions}
-use Rattle.star_compile_laws.proofs.TurnRows.{Sees, Shows, IsTurn, row_at, numbers, place_in}
-use Rattle.star_compile_laws.proofs.{ForeignKeys.each_passes, ForeignKeys.join_of, Joins.foreign_refers, Turns.Scanned, Turns.scan_runs, Turns.updates_of_rows, Programs.shows_what_is_there}
-use Rattle.star_compile_laws.specs.{Compiled.foreign_of, Compiled.compiled, Answers.PutsTheRows, Answers.update_of_row, Counts.lookups_of, Counts.turn_lookups}
-use Rattle.std.proofs.lemmas.Int.{ints}
+use Rattle.star_compile_laws.{proofs.TurnRows.{Sees, Shows, IsTurn, row_at, numbers, place_in}, proofs.ForeignKeys.{each_passes, join_of}, proofs.Joins.foreign_refers, proofs.Turns.{Scanned, scan_runs, updates_of_rows}, proofs.Programs.shows_what_is_there, specs.Compiled.{foreign_of, compiled}, specs.Answers.{PutsTheRows, update_of_row}, specs.Counts.{lookups_of, turn_lookups}}
 
 -- what a join of the plan gives
 record IsJoin (ts : Tables) (w : World) (j : Join) : Type 0 where
@@ -128,9 +118,8 @@ module _ (ts : Tables) (w : World) (seen : Sees ts w) (i : ℕ)
   one_more j js base u is alone =
       grind (arith, common_steps, row_at, true≢false, table_same, table_turned)
 
-  partners_are : (js : List Join) (base : Joined) → AllByRecursion (IsJoin ts w) js
-      → IsStar js → base Lineorder ≡ row_at (ts Lineorder) i
-      → partners ts js base ≡ row_with js base ∷ []
+  partners_are : (js : List Join) (base : Joined) → AllByRecursion (IsJoin ts w) js → IsStar js
+      → base Lineorder ≡ row_at (ts Lineorder) i → partners ts js base ≡ row_with js base ∷ []
   partners_are [] base ok star fact = refl
   partners_are (j ∷ js) base ok star fact =
       let t = table_of j.key in
@@ -164,7 +153,7 @@ module _ (ts : Tables) (w : World) (seen : Sees ts w) (p : Plan) (sound : IsSoun
       if joins_table p.joins t then row_at (ts t) (place_in w p.joins i t) else only_row Lineorder
       (row_at (ts Lineorder) i) t
 
-  -- a dimension's row is found at its place
+  -- a dimension's row is found at its position
   found_at : (i : ℕ) → i < length (ts Lineorder) → (t : TableId) → joins_table p.joins t ≡ true
       → w.find t (w.number (foreign_of p.joins t) i) ≡ Some (place_in w p.joins i t)
   found_at i below t joined =

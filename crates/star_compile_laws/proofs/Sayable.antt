@@ -1,12 +1,9 @@
 -- A compiled program can be written: each of its statements can be said.
-use Rattle.std.proofs.Common.{◌≡◌, ℕ, ◌+◌, ◌≤◌, true, List, [], ◌∷◌, All, arith}
-use Rattle.std.proofs.{lemmas.List.Elements.All-nil, lemmas.List.Elements.All-cons}
+use Rattle.std.proofs.{Common.{◌≡◌, ℕ, ◌+◌, ◌≤◌, true, List, [], ◌∷◌, All, arith}, lemmas.List.Elements.{All-nil, All-cons}}
 use Rattle.star_query.specs.Spelled.{is_printable_text}
 use Rattle.star_plan.specs.{Meaning.Plan, Spelled.IsSpelledPlan}
 use Rattle.star_program.specs.{declared.op.Operation.Operation, Code.Code, Code.Stop, Code.Then, Code.Each, Text.Spellable.HasFourDigits, Text.Spellable.IsPrinted, Text.Spellable.IsSpellableOp, Text.Spellable.IsSpellableOperation}
-use Rattle.star_compile_laws.specs.Compiled.{register_count, turn_code}
-use Rattle.star_compile_laws.proofs.Contents.{AllHold, Content, Makes, adds, both, constant_made, denies, edge, either, fails, finds, is_after, is_before, is_within, limits, loads, multiplies, number, subtracts}
-use Rattle.star_compile_laws.proofs.{Limits.constant_said, Pieces.IsKept, Pieces.Law, Pieces.of_turn}
+use Rattle.star_compile_laws.{specs.Compiled.{register_count, turn_code}, proofs.Contents.{AllHold, Content, Makes, adds, both, constant_made, denies, edge, either, fails, finds, is_after, is_before, is_within, limits, loads, multiplies, number, subtracts}, proofs.Limits.constant_said, proofs.Pieces.{IsKept, Law, of_turn}}
 
 abbrev pub Spelled : Code → Type 0
 Spelled Stop = Unit {0}

@@ -1,36 +1,28 @@
 -- A world of some rows sees them.
-use Rattle.std.proofs.Common.{◌≡◌, ◌<◌, ℕ, ℤ, true, false, List, [], length, Some, refl, sym, ap, subst, ◌∙◌, arith}
-use Rattle.std.specs.{Prelude.pos, Prelude.slice_get, Prelude.All}
-use Rattle.std.proofs.lemmas.Option.{same_Some, slice_get-map, slice_get-get_or, slice_get_within, get_or_from_slice_get}
-use Rattle.star_plan.proofs.Options.{mapped_gave}
-use Rattle.star_schema.specs.declared.{table.TableId.TableId, table.Key.Key, table.Key.TheVariants.One, table.Key.TheVariants.Two, column.ColumnId.ColumnId}
+use Rattle.std.{proofs.Common.{◌≡◌, ◌<◌, ℕ, ℤ, true, false, List, [], length, Some, refl, sym, ap, subst, ◌∙◌, arith}, specs.Prelude.{pos, slice_get, All}, proofs.lemmas.Option.{same_Some, slice_get-map, slice_get-get_or, slice_get_within, get_or_from_slice_get}, proofs.lemmas.Grind.common_steps, proofs.lemmas.Int.ints}
+use Rattle.star_plan.{proofs.Options.mapped_gave, specs.Joins.is_lone_key, specs.Meaning.{Row, value_in}}
+use Rattle.star_schema.{specs.declared.table.TableId.TableId, specs.declared.table.Key.Key, specs.declared.table.Key.TheVariants.{One, Two}, specs.declared.column.ColumnId.ColumnId, specs.Bounds.{number_in, numbers_at}, specs.Database.{Database, rows_in}, specs.Schema.{key_of, kind_of, position_of, table_of}, specs.Texts.texts_at, specs.Tables.{Value, Number, Text, IsRowOf, kind_of_value}, proofs.KeyColumns.{kind_at_index, key_column}, proofs.Same.column_same}
 use Rattle.star_schema.specs.declared.column.Kind.TheVariants as kind
-use Rattle.star_schema.specs.{Bounds.number_in, Bounds.numbers_at, Database.Database, Database.rows_in, Schema.key_of, Schema.kind_of, Schema.place_of, Schema.table_of, Texts.texts_at}
-use Rattle.star_schema.specs.Tables.{Value, Number, Text, IsRowOf, kind_of_value}
-use Rattle.star_schema.proofs.{KeyColumns.kind_at_place, KeyColumns.key_column, Same.column_same}
-use Rattle.star_plan.specs.{Joins.is_lone_key, Meaning.Row, Meaning.value_in}
 use Rattle.star_program.specs.World.{World}
-use Rattle.star_world.specs.RowsSeen.{HasNumber, HasText, IsWorldOf}
-use Rattle.star_world.proofs.Loaded.{numbers_len}
+use Rattle.star_world.{specs.RowsSeen.{HasNumber, HasText, IsWorldOf}, proofs.Loaded.numbers_len}
 use Rattle.star_compile_laws.proofs.{Joins.of_text, TurnRows.Sees, TurnRows.Shows, TurnRows.row_at}
-use Rattle.std.proofs.lemmas.Grind.{common_steps}
-use Rattle.std.proofs.lemmas.Int.{ints}
 
 -- a row has a value for a column, of its kind
 record Holds (c : ColumnId) (row : Row) : Type 0 where
   value : Value
-  there : slice_get row (place_of c) ≡ Some value
+  there : slice_get row (position_of c) ≡ Some value
   of_kind : kind_of_value value ≡ kind_of c
 
 holds : (c : ColumnId) (row : Row) → IsRowOf (table_of c) row → Holds c row
 holds c row h =
-    let gave = mapped_gave kind_of_value (slice_get row (place_of c)) (kind_of c)
-    (sym (slice_get-map kind_of_value row (place_of c)) ∙ ap (λ ks. slice_get ks (place_of c)) h
-    ∙ kind_at_place c) in
+    let gave = mapped_gave kind_of_value (slice_get row (position_of c)) (kind_of c)
+    (sym (slice_get-map kind_of_value row (position_of c))
+    ∙ ap (λ ks. slice_get ks (position_of c)) h
+    ∙ kind_at_index c) in
     record { value = gave.0; there = gave.1; of_kind = gave.2 }
 
 value_is : (c : ColumnId) (row : Row) (h : Holds c row) → value_in c row ≡ h.value
-value_is c row h = get_or_from_slice_get row (place_of c) h.value (Number (pos 0)) h.there
+value_is c row h = get_or_from_slice_get row (position_of c) h.value (Number (pos 0)) h.there
 
 -- the key of a table, where it is one column
 lone : (k : ColumnId) (o : Key) → is_lone_key k o ≡ true → o ≡ One k
@@ -45,19 +37,19 @@ module _ (database : Database) (w : World) (rows : (t : TableId) → All (IsRowO
       holds c (row_at (rows_in database (table_of c)) n) (rows (table_of c) n [] below)
 
   number_there : (c : ColumnId) (n : ℕ) (z : ℤ) → n < length (rows_in database (table_of c))
-      → slice_get (row_at (rows_in database (table_of c)) n) (place_of c) ≡ Some (Number z)
+      → slice_get (row_at (rows_in database (table_of c)) n) (position_of c) ≡ Some (Number z)
       → HasNumber database c n z
   unfolding numbers_at
   number_there c n z below e = grind (arith, common_steps, ints, slice_get-map, slice_get-get_or)
 
   text_there : (c : ColumnId) (n : ℕ) (v : List ℕ) → n < length (rows_in database (table_of c))
-      → slice_get (row_at (rows_in database (table_of c)) n) (place_of c) ≡ Some (Text v)
+      → slice_get (row_at (rows_in database (table_of c)) n) (position_of c) ≡ Some (Text v)
       → HasText database c n v
   unfolding texts_at
   text_there c n v below e = grind (arith, common_steps, slice_get-map, slice_get-get_or)
 
   shows_value : (c : ColumnId) (n : ℕ) (v : Value) → n < length (rows_in database (table_of c))
-      → slice_get (row_at (rows_in database (table_of c)) n) (place_of c) ≡ Some v
+      → slice_get (row_at (rows_in database (table_of c)) n) (position_of c) ≡ Some v
       → kind_of_value v ≡ kind_of c → Shows w c n v
   shows_value c n it below e k = grind (arith, common_steps, number_there, text_there)
 
@@ -72,7 +64,7 @@ module _ (database : Database) (w : World) (rows : (t : TableId) → All (IsRowO
 
   number_of : (k : ColumnId) (n : ℕ) (z : ℤ) (v : Value) → kind_of k ≡ kind.Number
       → n < length (rows_in database (table_of k))
-      → slice_get (row_at (rows_in database (table_of k)) n) (place_of k) ≡ Some v
+      → slice_get (row_at (rows_in database (table_of k)) n) (position_of k) ≡ Some v
       → kind_of_value v ≡ kind_of k → (y : ℤ) × (v ≡ Number y) × HasNumber database k n y
   number_of k n z (Number y) q below e h = (y, refl, number_there k n y below e)
   number_of k n z (Text t) q below e h = let a : true ≡ false = ap of_text (h ∙ q) in absurd (cc)

@@ -1,21 +1,13 @@
 -- How long the body of a compiled program is: a column costs one instruction to load, and a
 -- dimension two more, once.
-use Rattle.std.proofs.Common.{◌≡◌, ℕ, zero, suc, ◌+◌, ◌*◌, ◌≤◌, Bool, true, false, List, [], ◌∷◌, ◌++◌, length, Option, Some, None, refl, arith}
-use Rattle.std.specs.List.{sum_by}
-use Rattle.std.proofs.lemmas.List.Sums.{sum_by-cons}
-use Rattle.star_schema.specs.{declared.table.TableId.TableId, declared.column.ColumnId.ColumnId, Schema.is_table, Schema.table_of, Tables.Value, Tables.Number, Tables.Text}
-use Rattle.star_schema.specs.declared.table.TableId.TheVariants.{Date, Customer, Supplier, Part, Lineorder}
-use Rattle.star_schema.proofs.Same.{table_same}
-use Rattle.star_query.specs.{declared.token.Relation.Relation, Limits.operands_of, Limits.comparisons_of, Limits.measure_operands}
+use Rattle.std.{proofs.Common.{◌≡◌, ℕ, zero, suc, ◌+◌, ◌*◌, ◌≤◌, Bool, true, false, List, [], ◌∷◌, ◌++◌, length, Option, Some, None, refl, arith}, specs.List.sum_by, proofs.lemmas.List.Sums.sum_by-cons, proofs.lemmas.Grind.common_steps}
+use Rattle.star_schema.{specs.declared.table.TableId.TableId, specs.declared.column.ColumnId.ColumnId, specs.Schema.{is_table, table_of}, specs.Tables.{Value, Number, Text}, specs.declared.table.TableId.TheVariants.{Date, Customer, Supplier, Part, Lineorder}, proofs.Same.table_same}
+use Rattle.star_query.specs.{declared.token.Relation.Relation, Limits.{operands_of, comparisons_of, measure_operands}, Tree.{Expression, column, constant, add, sub, mul, or, and, not, test, compare, between, Measure, count, fold}}
 use Rattle.star_query.specs.declared.token.Relation.TheVariants as sign
 use Rattle.star_plan.specs.{declared.tree.Join.Join, Meaning.Plan, Meaning.RowCondition}
-use Rattle.star_query.specs.Tree.{Expression, column, constant, add, sub, mul, or, and, not, test, compare, between, Measure, count, fold}
-use Rattle.star_program.specs.declared.op.{Op.TheVariants.Assign, Op.TheVariants.Keep, Op.TheVariants.Put, Operation.Operation, Operation.TheVariants.Binary, Operation.TheVariants.Const, Operation.TheVariants.Find, Operation.TheVariants.Not, Operator.Operator}
+use Rattle.star_program.specs.{declared.op.Op.TheVariants.{Assign, Keep, Put}, declared.op.Operation.Operation, declared.op.Operation.TheVariants.{Binary, Const, Find, Not}, declared.op.Operator.Operator, Code.{Code, Stop, Then, Each, code_size}, Faults.target_of, World.is_column}
 use Rattle.star_program.specs.declared.op.Operator.TheVariants as operator
-use Rattle.star_program.specs.{Code.Code, Code.Stop, Code.Then, Code.Each, Code.code_size, Faults.target_of, World.is_column}
-use Rattle.star_compile_laws.specs.Compiled.{Env, Rest, one_before, binary_code, column_code, env_first, register_in, one_more, with_loaded, with_found, foreign_of, fact_code, row_code, place_code, column_from, test_code, between_code, condition_code, expression_code, conjuncts_code, keys_code, values_code, body_code, write, load_code, writes_one, register_count}
-use Rattle.star_compile_laws.proofs.Entries.{one_if, missing, entry_falls}
-use Rattle.std.proofs.lemmas.Grind.{common_steps}
+use Rattle.star_compile_laws.{specs.Compiled.{Env, Rest, one_before, binary_code, column_code, env_first, register_in, one_more, with_loaded, with_found, foreign_of, fact_code, row_code, place_code, column_from, test_code, between_code, condition_code, expression_code, conjuncts_code, keys_code, values_code, body_code, write, load_code, writes_one, register_count}, proofs.Entries.{one_if, missing, entry_falls}}
 
 -- ---- tables whose rows are not found
 
@@ -139,7 +131,8 @@ module _ (js : List Join) where
       → code_size (place_code js c env k b) ≤ 1 + m + 2 * unfound env.found
   of_place c env k m true h = omega (arith, h (with_loaded env c) env.next)
   of_place c env k m false h = of_row (table_of c) env (λ e r. load_code c r e k) (1 + m)
-      (register_in is_table env.found (table_of c)) refl (λ e r. omega (arith, h (with_loaded e c) e.next))
+      (register_in is_table env.found (table_of c)) refl
+      (λ e r. omega (arith, h (with_loaded e c) e.next))
 
   of_column_from : (c : ColumnId) (env : Env) (k : Rest ℕ) (m : ℕ) (o : Option ℕ) → Short m k
       → code_size (column_from js c env k o) ≤ 1 + m + 2 * unfound env.found

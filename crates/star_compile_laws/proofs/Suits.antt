@@ -1,30 +1,16 @@
--- What a verifier knows of the registers of a turn, and how it judges the operations that write them.
-use Rattle.std.proofs.Common.{◌≡◌, ℕ, ◌≤◌, ◌<◌, Bool, true, false, Option, Some, None, refl, sym, ap, ◌∙◌, arith}
-use Rattle.std.proofs.lemmas.Bool.{and_from, and_parts, lt-ltb}
-use Rattle.std.specs.Prelude.{ℤ, pos, ◌+ℤ◌, ◌-ℤ◌, ◌*ℤ◌, ◌&&◌, not, if◌then◌else◌}
-use Rattle.std.specs.{Option.option_map}
-use Rattle.star_schema.specs.{declared.column.ColumnId.ColumnId, Columns.AreBoundsI64, Schema.is_table, Schema.kind_of, Schema.table_of}
+-- What a verifier knows of the registers of a turn, and how it judges the operations that write
+-- them.
+use Rattle.std.{proofs.Common.{◌≡◌, ℕ, ◌≤◌, ◌<◌, Bool, true, false, Option, Some, None, refl, sym, ap, ◌∙◌, arith}, proofs.lemmas.Bool.{and_from, and_parts, lt-ltb}, specs.Prelude.{ℤ, pos, ◌+ℤ◌, ◌-ℤ◌, ◌*ℤ◌, ◌&&◌, not, if◌then◌else◌}, specs.Option.option_map, proofs.lemmas.Grind.common_steps, proofs.lemmas.Int.ints}
+use Rattle.star_schema.{specs.declared.column.ColumnId.ColumnId, specs.Columns.AreBoundsI64, specs.Schema.{is_table, kind_of, table_of}, proofs.Same.{column_itself, table_itself}}
 use Rattle.star_schema.specs.declared.column.Kind.TheVariants as kind
-use Rattle.star_schema.proofs.Same.{column_itself, table_itself}
-use Rattle.star_interval.specs.Range.{Range, corner_range, fits_i64, is_i64, only}
-use Rattle.star_interval.proofs.Ranges.{fits_i64_fits}
+use Rattle.star_interval.{specs.Range.{Range, corner_range, fits_i64, is_i64, only}, proofs.Ranges.fits_i64_fits}
 use Rattle.star_query.specs.Tree as condition
 use Rattle.star_query.specs.Tree.{Expression, add, constant, mul, sub}
 use Rattle.star_plan.specs.{Fits.expression_range, Meaning.Plan, Sound.IsSoundPlan, Spelled.IsSpelledPlan}
-use Rattle.star_program.specs.declared.{fault.Fault.TheVariants.BadColumn, op.Op.TheVariants.Assign, op.Operation.Operation, op.Operator.Operator, program.Parts.Parts, value.Kind.Kind}
-use Rattle.star_program.specs.declared.op.Operation.TheVariants.{Binary, Const, Not, Read, Within}
+use Rattle.star_program.specs.{declared.fault.Fault.TheVariants.BadColumn, declared.op.Op.TheVariants.Assign, declared.op.Operation.Operation, declared.op.Operator.Operator, declared.program.Parts.Parts, declared.value.Kind.Kind, declared.op.Operation.TheVariants.{Binary, Const, Not, Read, Within}, Faults.{Kinds, binary_fault, both_fault, compare_fault, compares_with, is_flag_kind, is_number_kind, is_ordered, is_row_kind, is_row_of, operand_fault, operation_fault, unless}, World.{World, is_column, is_text}}
 use Rattle.star_program.specs.declared.op.Operator.TheVariants as operator
-use Rattle.star_program.specs.Faults.{Kinds, binary_fault, both_fault, compare_fault, compares_with, is_flag_kind, is_number_kind, is_ordered, is_row_kind, is_row_of, operand_fault, operation_fault, unless}
-use Rattle.star_program.specs.World.{World, is_column, is_text}
-use Rattle.star_safety.specs.declared.reason.Reason.TheVariants.{NotAForeignKey}
-use Rattle.star_safety.specs.{Contexts.Context, Contexts.operation_known, Refusals.is_some_table, Refusals.refers_to, Refusals.refuses, Refusals.source_reason, Tallies.no_shares}
-use Rattle.star_safety.specs.Ranges.{AllKnown, Known, KnownFlag, KnownNumber, KnownPlace, KnownRow, Reach, answer_known, joined_reach, kinds_known, known_arithmetic, known_kind, known_number, loaded_known, no_reach, origin_at, range_at, reach_at}
-use Rattle.star_safety.proofs.Instructions.{both_none}
-use Rattle.star_compile_laws.specs.{Compiled.compiled, Compiled.foreign_of, Wide.Computed, Wide.computed, Wide.given, Wide.together}
-use Rattle.star_compile_laws.proofs.{ForeignKeys.are_foreign, Pieces.made}
-use Rattle.star_compile_laws.proofs.Contents.{Comparing, Content, Limit, Makes, after, before, negated, OfColumn, OfCondition, OfExpression, OfLimit, OfRow, OfTest, adds, at_most, both, constant_made, denies, edge, either, equal, fails, finds, is_after, is_before, is_within, less, limits, loads, multiplies, number, of_texts, operator_of, subtracts, within}
-use Rattle.std.proofs.lemmas.Grind.{common_steps}
-use Rattle.std.proofs.lemmas.Int.{ints}
+use Rattle.star_safety.{specs.declared.reason.Reason.TheVariants.NotAForeignKey, specs.Contexts.{Context, operation_known}, specs.Refusals.{is_some_table, refers_to, refuses, source_reason}, specs.Tallies.no_shares, specs.Ranges.{AllKnown, Known, KnownFlag, KnownNumber, KnownPlace, KnownRow, Reach, answer_known, joined_reach, kinds_known, known_arithmetic, known_kind, known_number, loaded_known, no_reach, origin_at, range_at, reach_at}, proofs.Instructions.both_none}
+use Rattle.star_compile_laws.{specs.Compiled.{compiled, foreign_of}, specs.Wide.{Computed, computed, given, together}, proofs.ForeignKeys.are_foreign, proofs.Pieces.made, proofs.Contents.{Comparing, Content, Limit, Makes, after, before, negated, OfColumn, OfCondition, OfExpression, OfLimit, OfRow, OfTest, adds, at_most, both, constant_made, denies, edge, either, equal, fails, finds, is_after, is_before, is_within, less, limits, loads, multiplies, number, of_texts, operator_of, subtracts, within}}
 
 -- the bounds of columns are of 64 bits, and so are the constants
 abbrev pub AreColumnsI64 : World → Plan → Type 0

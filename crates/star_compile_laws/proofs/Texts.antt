@@ -1,13 +1,9 @@
 -- The texts of the programs of the benchmark's queries and of two others, by computation.
-use Rattle.std.proofs.Common.{ℕ, List, [], ◌∷◌, codes, map, refl}
-use Rattle.std.specs.{Fmt.digits, List.flat_map, Prelude.nat_eq, Prelude.if◌then◌else◌}
-use Rattle.star_common.proofs.Tables.{Gives}
-use Rattle.star_common.specs.Quotes.{quoted}
+use Rattle.std.{proofs.Common.{ℕ, List, [], ◌∷◌, codes, map, refl}, specs.Fmt.digits, specs.List.flat_map, specs.Prelude.{nat_eq, if◌then◌else◌}}
+use Rattle.star_common.{proofs.Tables.Gives, specs.Quotes.quoted}
 use Rattle.star_schema.specs.{Schema.column_of, Schema.table_name, Words.shape_name, Words.aggregate_name, Words.direction_name}
-use Rattle.star_program.specs.Text.{Keywords.mnemonic_name, Statements.lines_of_code}
-use Rattle.star_program.specs.Text.Written.{program_text, written_line, op_text, assigned_text, register_text, target_text, group_text, key_text, written_column, show_text, sort_text}
-use Rattle.star_compile_laws.specs.Compiled.{compiled}
-use Rattle.star_compile_laws.proofs.Plans.{q11, q12, q13, q21, q22, q23, q31, q32, q33, q34, q41, q42, q43, profits, others}
+use Rattle.star_program.specs.Text.{Keywords.mnemonic_name, Statements.lines_of_code, Written.{program_text, written_line, op_text, assigned_text, register_text, target_text, group_text, key_text, written_column, show_text, sort_text}}
+use Rattle.star_compile_laws.{specs.Compiled.compiled, proofs.Plans.{q11, q12, q13, q21, q22, q23, q31, q32, q33, q34, q41, q42, q43, profits, others}}
 
 -- a semicolon ends a line
 abbrev lines : List (List ℕ) → List ℕ

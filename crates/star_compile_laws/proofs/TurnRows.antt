@@ -1,7 +1,6 @@
 -- Rows of tables as a world has them, and the rows that a turn of the scan is over.
 use Rattle.std.specs.Prelude.{◌≡◌, ℕ, zero, suc, ◌+◌, ◌<◌, ℤ, true, false, List, [], ◌∷◌, length, slice_index_or, Some, if◌then◌else◌, unwrap_or}
-use Rattle.star_schema.specs.declared.{table.TableId.TableId, table.TableId.TheVariants.Lineorder, column.ColumnId.ColumnId}
-use Rattle.star_schema.specs.{Schema.is_table, Schema.key_of, Schema.references, Schema.table_of, Tables.Value, Tables.Number, Tables.Text}
+use Rattle.star_schema.specs.{declared.table.TableId.TableId, declared.table.TableId.TheVariants.Lineorder, declared.column.ColumnId.ColumnId, Schema.{is_table, key_of, references, table_of}, Tables.{Value, Number, Text}}
 use Rattle.star_plan.specs.{declared.tree.Join.Join, Joins.is_lone_key, Sound.joins_table, Sound.in_scope, Meaning.Row, Meaning.Tables, Meaning.Joined, Meaning.value_in, Meaning.joined_value}
 use Rattle.star_program.specs.World.{World, IsRowNumberOf, is_text}
 use Rattle.star_world.specs.RowsSeen.{IsCodeOf}
@@ -30,7 +29,7 @@ pub record Sees (ts : Tables) (w : World) : Type 0 where
   pub found : (c : ColumnId) (t : TableId) (n : ℕ) → references c ≡ Some t
       → n < length (ts (table_of c)) → IsRowNumberOf w t (w.find t (w.number c n))
 
--- the rows of the tables at these places make the joined row
+-- the rows of the tables at these positions make the joined row
 pub record IsTurn (w : World) (js : List Join) (at : TableId → ℕ) (row : Joined) : Type 0 where
   pub shows : (c : ColumnId) → in_scope js (table_of c) ≡ true
       → Shows w c (at (table_of c)) (joined_value c row)

@@ -1,29 +1,15 @@
 -- A turn of a compiled program, and its scan.
-use Rattle.std.proofs.Common.{◌≡◌, ℕ, zero, suc, ◌+◌, ◌<◌, Bool, true, false, List, [], ◌∷◌, Option, Some, None, length, add-zero, refl, sym, ap, subst, ◌∙◌, arith}
+use Rattle.std.{proofs.Common.{◌≡◌, ℕ, zero, suc, ◌+◌, ◌<◌, Bool, true, false, List, [], ◌∷◌, Option, Some, None, length, add-zero, refl, sym, ap, subst, ◌∙◌, arith}, proofs.lemmas.Bool.and_parts, proofs.lemmas.List.Sums.sum_by-cons, specs.Prelude.{pos, ◌&&◌, not, nat_lt, map, filter, if◌then◌else◌, unwrap_or}, specs.List.{list_all, sum_by}, specs.Ordering.{is_le, is_lt}, proofs.lemmas.Grind.common_steps}
 use mathlib.Core.List.{reverse_aux}
-use Rattle.std.proofs.lemmas.{Bool.and_parts, List.Sums.sum_by-cons}
-use Rattle.std.specs.Prelude.{pos, ◌&&◌, not, nat_lt, map, filter, if◌then◌else◌, unwrap_or}
-use Rattle.std.specs.{List.list_all, List.sum_by, Ordering.is_le, Ordering.is_lt}
 use Rattle.star_schema.specs.{declared.table.TableId.TableId, declared.table.TableId.TheVariants.Lineorder, declared.column.ColumnId.ColumnId, Schema.kind_of, Schema.table_of}
 use Rattle.star_schema.specs.declared.column.Kind.TheVariants as kind
 use Rattle.star_schema.specs.Tables as held
-use Rattle.star_query.specs.declared.token.Fold.TheVariants.{Sum, Min, Max}
-use Rattle.star_query.specs.Tree.{Expression, Measure, add, column, constant, count, fold, mul, sub}
-use Rattle.star_plan.specs.Meaning.{Joined, joined_value, holds, all_hold, number_with, measured, aggregate_of, Plan, RowCondition, value_number}
-use Rattle.star_plan.specs.{Names.same_kind, Sound.in_scope, Sound.IsSoundPlan}
+use Rattle.star_query.specs.{declared.token.Fold.TheVariants.{Sum, Min, Max}, Tree.{Expression, Measure, add, column, constant, count, fold, mul, sub}}
+use Rattle.star_plan.specs.{Meaning.{Joined, joined_value, holds, all_hold, number_with, measured, aggregate_of, Plan, RowCondition, value_number}, Names.same_kind, Sound.{in_scope, IsSoundPlan}}
 use Rattle.star_program.specs.declared.key.KeyValue.TheVariants as key
-use Rattle.star_program.specs.declared.{fault.TrapKind.TrapKind, op.Op.TheVariants.Assign, op.Op.TheVariants.Keep, op.Op.TheVariants.Put, op.Operation.Operation, op.Operation.TheVariants.Find, program.Parts.Parts, value.Value.Value, value.Value.TheVariants.Flag, value.Value.TheVariants.Number, value.Value.TheVariants.Row}
+use Rattle.star_program.specs.{declared.fault.TrapKind.TrapKind, declared.op.Op.TheVariants.{Assign, Keep, Put}, declared.op.Operation.Operation, declared.op.Operation.TheVariants.Find, declared.program.Parts.Parts, declared.value.Value.Value, declared.value.Value.TheVariants.{Flag, Number, Row}, Code.{Code, Stop, Then}, World.{World, is_text}, Puts.{Update, aligned}, Private.Doing.keeps, Values.{Registers, with_entry, number_read, flag_read, key_read, row_read}, Effects.{Effect, State, answer_of, compared, loaded, mark_of, marked, result_of, trap_of, unless_trap, with_update}, Run.{End, Ended, follow, after, begin, turns, scans, meaning}}
 use Rattle.star_program.specs.declared.op.Operator.TheVariants as operator
-use Rattle.star_program.specs.{Code.Code, Code.Stop, Code.Then, World.World, World.is_text, Puts.Update, Puts.aligned, Private.Doing.keeps}
-use Rattle.star_program.specs.Values.{Registers, with_entry, number_read, flag_read, key_read, row_read}
-use Rattle.star_program.specs.Effects.{Effect, State, answer_of, compared, loaded, mark_of, marked, result_of, trap_of, unless_trap, with_update}
-use Rattle.star_program.specs.Run.{End, Ended, follow, after, begin, turns, scans, meaning}
-use Rattle.star_compile_laws.specs.Compiled.{body_code, compiled, foreign_of, turn_code}
-use Rattle.star_compile_laws.specs.{Answers.coded, Answers.update_of_row, Counts.lookups_in, Counts.turn_lookups}
-use Rattle.star_compile_laws.proofs.Contents.{AllHold, Content, Makes, OfColumn, OfCondition, OfExpression, OfLimit, OfRow, OfTest, adds, both, column_tested, constant_made, denies, edge, either, fails, finds, is_after, is_before, is_within, limits, loads, multiplies, number, numbers_put, operator_of, subtracts}
-use Rattle.star_compile_laws.proofs.{Entries.entry_other, Entries.entry_same, Entries.one_if, Forms.comparison_says, Forms.form_value, Forms.limit_value, Joins.holds_numbers, Limits.tested_in_scope, TurnRows.Shows, TurnRows.IsTurn, TurnRows.numbers, TurnRows.place_in}
-use Rattle.star_compile_laws.proofs.Pieces.{IsKept, Law, Stays, conjuncts_grade, expression_grade, made, of_turn, values_grade}
-use Rattle.std.proofs.lemmas.Grind.{common_steps}
+use Rattle.star_compile_laws.{specs.Compiled.{body_code, compiled, foreign_of, turn_code}, specs.Answers.{coded, update_of_row}, specs.Counts.{lookups_in, turn_lookups}, proofs.Contents.{AllHold, Content, Makes, OfColumn, OfCondition, OfExpression, OfLimit, OfRow, OfTest, adds, both, column_tested, constant_made, denies, edge, either, fails, finds, is_after, is_before, is_within, limits, loads, multiplies, number, numbers_put, operator_of, subtracts}, proofs.Entries.{entry_other, entry_same, one_if}, proofs.Forms.{comparison_says, form_value, limit_value}, proofs.Joins.holds_numbers, proofs.Limits.tested_in_scope, proofs.TurnRows.{Shows, IsTurn, numbers, place_in}, proofs.Pieces.{IsKept, Law, Stays, conjuncts_grade, expression_grade, made, of_turn, values_grade}}
 
 -- the updates of each group, with that of the row where it is selected
 abbrev pub put_if : World → Plan → Joined → Bool → (ℕ → List Update) → ℕ → List Update
@@ -161,8 +147,7 @@ module _ (w : World) (may : ℕ → Bool) (at : TableId → ℕ) (p : Plan) (row
       → (meaning w f may rest (a.number + 1) true a.regs a.state ≡ Ended e
       → e ≡ turned w p row (all_so flags) a.state (a.state.lookups + lookups_in rest flags))
       → follow a.number (keeps a.regs a.state b) (meaning w f may rest (a.number + 1) true)
-      ≡ Ended e
-      → e ≡ turned w p row (b && all_so flags) a.state
+      ≡ Ended e → e ≡ turned w p row (b && all_so flags) a.state
       (a.state.lookups + lookups_in (Then (Keep r) rest) (b ∷ flags))
   kept_by it flags a r rest next h = grind (arith, common_steps, add-zero)
 
@@ -182,7 +167,7 @@ module _ (w : World) (may : ℕ → Bool) (at : TableId → ℕ) (p : Plan) (row
       → Shows w c (at (table_of c)) v
       → key_read (Some (loaded w c (at (table_of c)) b)) ≡ coded w c v
   key_shown c (held.Number z) false q shows = ap key.Number shows.1
-  key_shown c (held.Text v) true q shows = ap key.Code shows.1.place
+  key_shown c (held.Text v) true q shows = ap key.Code shows.1.index
   key_shown c (held.Number z) true q shows = let a : true ≡ false = sym q ∙ shows.0 in absurd (cc)
   key_shown c (held.Text v) false q shows = let a : true ≡ false = sym shows.0 ∙ q in absurd (cc)
 

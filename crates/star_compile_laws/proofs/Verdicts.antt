@@ -1,19 +1,12 @@
 -- What refuses a compiled program, if anything does.
-use Rattle.std.proofs.Common.{◌≡◌, ◌⊎◌, ◌+◌, inl, inr, ℕ, ◌≤◌, ◌<◌, Bool, true, false, Option, Some, None, refl, ap, subst, ◌∙◌, arith}
-use Rattle.std.proofs.lemmas.Bool.{false_from_ne_true, le-leb, leb-true}
-use Rattle.std.specs.{Prelude.nat_eq, Prelude.nat_le, Prelude.if◌then◌else◌, List.list_all, Option.option_map, Option.option_or}
+use Rattle.std.{proofs.Common.{◌≡◌, ◌⊎◌, ◌+◌, inl, inr, ℕ, ◌≤◌, ◌<◌, Bool, true, false, Option, Some, None, refl, ap, subst, ◌∙◌, arith}, proofs.lemmas.Bool.{false_from_ne_true, le-leb, leb-true}, specs.Prelude.{nat_eq, nat_le, if◌then◌else◌}, specs.List.list_all, specs.Option.{option_map, option_or}, proofs.lemmas.Grind.common_steps}
 use Rattle.star_schema.specs.{declared.table.TableId.TheVariants.Lineorder, declared.column.ColumnId.ColumnId, Columns.AreBoundsI64}
 use Rattle.star_common.specs.First.{first_answer}
 use Rattle.star_plan.specs.{Meaning.Plan, Sound.IsSoundPlan, Spelled.IsSpelledPlan, Fits.measure_fits, Fits.Fits}
 use Rattle.star_interval.specs.Range.{Range, fits_i64}
-use Rattle.star_program.specs.declared.op.Op.TheVariants.{Assign, Keep, Put}
-use Rattle.star_program.specs.{Code.Code, Code.Each, Code.Stop, Code.Then, World.World, ShowLines.shown_fault}
-use Rattle.star_safety.specs.{Admissible.Refusal, Admissible.TooCostly, Admissible.Refused, Admissible.BadShow, Admissible.cost_refusal, Admissible.first_refusal, declared.reason.Reason.Reason}
-use Rattle.star_safety.specs.Standing.{instructions_of, reason_of}
-use Rattle.star_safety.proofs.Forward.{first_standing}
-use Rattle.star_compile_laws.specs.{Compiled.compiled, Judged.IsOverflow, Wide.Computed, Wide.computed, Wide.first_wide, Wide.too_wide, Wide.turn_wide}
-use Rattle.star_compile_laws.proofs.{Accepts.Judged, Accepts.or_none_right, Accepts.program_judged, Suits.AreColumnsI64, Flat.quote_is, Programs.shows_what_is_there}
-use Rattle.std.proofs.lemmas.Grind.{common_steps}
+use Rattle.star_program.specs.{declared.op.Op.TheVariants.{Assign, Keep, Put}, Code.{Code, Each, Stop, Then}, World.World, ShowLines.shown_fault}
+use Rattle.star_safety.{specs.Admissible.{Refusal, TooCostly, Refused, BadShow, cost_refusal, first_refusal}, specs.declared.reason.Reason.Reason, specs.Standing.{instructions_of, reason_of}, proofs.Forward.first_standing}
+use Rattle.star_compile_laws.{specs.Compiled.compiled, specs.Judged.IsOverflow, specs.Wide.{Computed, computed, first_wide, too_wide, turn_wide}, proofs.Accepts.{Judged, or_none_right, program_judged}, proofs.Suits.AreColumnsI64, proofs.Flat.quote_is, proofs.Programs.shows_what_is_there}
 
 not_at_most : (n m : ℕ) → m < n → nat_le n m ≡ false
 not_at_most n m h =

@@ -1,19 +1,15 @@
--- What a run of a compiled program puts and looks up, which number of a turn is the first whose range is
--- too wide, and what refuses programs of small queries, by computing.
-use Rattle.std.proofs.Common.{◌≡◌, ◌^◌, ◌-◌, ℕ, List, [], ◌∷◌, Some, None, pos, refl}
-use Rattle.std.specs.Prelude.{codes, if◌then◌else◌, map}
+-- What a run of a compiled program puts and looks up, which number of a turn is the first whose
+-- range is too wide, and what refuses programs of small queries, by computing.
+use Rattle.std.{proofs.Common.{◌≡◌, ◌^◌, ◌-◌, ℕ, List, [], ◌∷◌, Some, None, pos, refl}, specs.Prelude.{codes, if◌then◌else◌, map}}
 use Rattle.star_common.proofs.Tables.{Gives, Gives2}
-use Rattle.star_schema.specs.declared.{column.ColumnId.ColumnId, group.GroupColumn.TheVariants.Key, group.GroupColumn.TheVariants.Aggregate, group.Shape.TheVariants.Plain}
-use Rattle.star_schema.specs.declared.column.ColumnId.TheVariants.{CCustkey, CNation, LoCustkey, LoDiscount, LoExtendedprice, LoQuantity, LoRevenue}
-use Rattle.star_schema.specs.{Bounds.numbers_at, Database.Database, Database.rows_in, Dictionary.dictionary_of, Loadable.keys_of, Schema.column_of, Schema.place_of, Tables.Value, Tables.Number, Tables.Text, Texts.texts_at}
+use Rattle.star_schema.specs.{declared.column.ColumnId.ColumnId, declared.group.GroupColumn.TheVariants.{Key, Aggregate}, declared.group.Shape.TheVariants.Plain, declared.column.ColumnId.TheVariants.{CCustkey, CNation, LoCustkey, LoDiscount, LoExtendedprice, LoQuantity, LoRevenue}, Bounds.numbers_at, Database.{Database, rows_in}, Dictionary.dictionary_of, Loadable.keys_of, Schema.{column_of, position_of}, Tables.{Value, Number, Text}, Texts.texts_at}
 use Rattle.star_interval.specs.Range.{Range, is_i64, is_i128, only}
 use Rattle.star_query.specs.{declared.token.Relation.TheVariants.AtMost, declared.token.Relation.TheVariants.Less, Tree.add, Tree.column, Tree.count, Tree.mul}
 use Rattle.star_plan.specs.Meaning.{Plan, plan_rows}
 use Rattle.star_program.specs.{declared.key.KeyValue.TheVariants.Code, Puts.Update, Run.End, Run.Ended, Run.run_of, World.is_text}
 use Rattle.star_safety.specs.declared.reason.{Reached.Reached, Reason.Reason, Reason.TheVariants.Overflow}
 use Rattle.star_world.specs.WorldOf.{world_of}
-use Rattle.star_compile_laws.specs.{Answers.update_of_row, Compiled.compiled, Counts.lookups_of, Wide.turn_wide}
-use Rattle.star_compile_laws.proofs.{PlanWords.compare, PlanWords.summed, Plans.q11}
+use Rattle.star_compile_laws.{specs.Answers.update_of_row, specs.Compiled.compiled, specs.Counts.lookups_of, specs.Wide.turn_wide, proofs.PlanWords.{compare, summed}, proofs.Plans.q11}
 
 abbrev number : ℕ → Value
 number n = Number (pos n)
@@ -66,17 +62,17 @@ done _ = ([], [])
 abbrev update : (nation revenue : ℕ) → Update
 update nation revenue = record { keys = Code nation ∷ []; values = pos 1 ∷ pos revenue ∷ [] }
 
--- the last line comes first; the line of ROMANIA and that of 50 pieces were not selected; of each line
--- with less than 40 pieces the customer's nation is looked up once, though it is a key too
+-- the last line comes first; the line of ROMANIA and that of 50 pieces were not selected; of each
+-- line with less than 40 pieces the customer's nation is looked up once, though it is a key too
 puts : (done (run_of (world_of few) (compiled by_nation))
     ≡ (update 1 630 ∷ update 0 495 ∷ update 1 1940 ∷ update 1 980 ∷ [], 6 ∷ 5 ∷ 4 ∷ []))
     × (map (update_of_row (world_of few) by_nation) (plan_rows (rows_in few) by_nation)
     ≡ update 1 980 ∷ update 1 1940 ∷ update 0 495 ∷ update 1 630 ∷ [])
-unfolding column_of place_of numbers_at texts_at dictionary_of keys_of is_i64 is_i128
+unfolding column_of position_of numbers_at texts_at dictionary_of keys_of is_i64 is_i128
 puts = (refl, refl)
 
--- where the nation is asked for first, it is looked up for each line, and where it is a key alone, for
--- the lines that are left
+-- where the nation is asked for first, it is looked up for each line, and where it is a key alone,
+-- for the lines that are left
 lookups : Gives (lookups_of (rows_in few)) (
     (by_nation, 5)
     ∷ (
@@ -87,7 +83,7 @@ lookups : Gives (lookups_of (rows_in few)) (
       6,
     )
     ∷ (record by_nation { conjuncts = compare LoQuantity Less (Number (pos 24)) ∷ [] }, 3) ∷ [])
-unfolding column_of place_of
+unfolding column_of position_of
 lookups = refl
 
 -- ---- ranges
@@ -119,7 +115,8 @@ wide_turns : Gives2 turn_wide (
       discounted,
       record q11 {
         measures =
-            summed (mul (mul (column LoDiscount) (column LoExtendedprice)) (column LoDiscount)) ∷ [];
+            summed (mul (mul (column LoDiscount) (column LoExtendedprice)) (column LoDiscount))
+            ∷ [];
       },
       Some (18, wide),
     )

@@ -23,8 +23,8 @@ update_of_row w p row = record {
 }
 
 -- a run that comes to its end has put the selected rows and no other, in their order; the updates
--- are in order, the newest first. `may` says whether one more turn may begin; this holds of a run with a
--- bound on its visits and of one without
+-- are in order, the newest first. `may` says whether one more turn may begin; this holds of a run
+-- with a bound on its visits and of one without
 abbrev pub PutsTheRows : Tables → World → Plan → Type 0
 PutsTheRows ts w p = (may : ℕ → Bool) (s : State) → run_while w may (compiled p) ≡ Ended s
     → s.updates_of 0 ≡ reverse (map (update_of_row w p) (plan_rows ts p))

@@ -1,13 +1,9 @@
 -- The program of a plan.
 use Rattle.std.specs.Prelude.{ℕ, ◌+◌, pos, ◌+ℤ◌, Bool, true, false, List, [], ◌∷◌, ◌++◌, map, Option, Some, None, if◌then◌else◌}
-use Rattle.star_schema.specs.{declared.table.TableId.TableId, declared.table.TableId.TheVariants.Lineorder, declared.column.ColumnId.ColumnId, declared.column.ColumnId.TheVariants.LoOrderdate, declared.group.GroupColumn.GroupColumn, Schema.is_table, Schema.table_of, Tables.Value}
-use Rattle.star_schema.specs.{Tables.Number, Tables.Text}
-use Rattle.star_query.specs.Tree.{Expression, column, constant, add, sub, mul, or, and, not, test, compare, between, Measure, count, fold}
-use Rattle.star_query.specs.{declared.token.Relation.Relation}
+use Rattle.star_schema.specs.{declared.table.TableId.TableId, declared.table.TableId.TheVariants.Lineorder, declared.column.ColumnId.ColumnId, declared.column.ColumnId.TheVariants.LoOrderdate, declared.group.GroupColumn.GroupColumn, Schema.{is_table, table_of}, Tables.{Value, Number, Text}}
+use Rattle.star_query.specs.{Tree.{Expression, column, constant, add, sub, mul, or, and, not, test, compare, between, Measure, count, fold}, declared.token.Relation.Relation}
 use Rattle.star_plan.specs.{declared.tree.Join.Join, Meaning.aggregate_of, Meaning.Plan, Meaning.RowCondition}
-use Rattle.star_program.specs.declared.op.Operation.TheVariants.{Const, Edge, Load, Find, Binary, Within, Not}
-use Rattle.star_program.specs.{declared.group.GroupDecl.GroupDecl, declared.group.GroupKey.GroupKey, declared.op.Edge.TheVariants.Low, declared.op.Edge.TheVariants.High, declared.op.Op.TheVariants.Assign, declared.op.Op.TheVariants.Keep, declared.op.Op.TheVariants.Put}
-use Rattle.star_program.specs.{declared.op.Operation.Operation, declared.op.Operator.Operator, declared.program.Parts.Parts, declared.program.Show.Show, Code.Code, Code.Stop, Code.Then, Code.Each, Faults.target_of, World.is_column, World.is_text}
+use Rattle.star_program.specs.{declared.op.Operation.TheVariants.{Const, Edge, Load, Find, Binary, Within, Not}, declared.group.GroupDecl.GroupDecl, declared.group.GroupKey.GroupKey, declared.op.Edge.TheVariants.{Low, High}, declared.op.Op.TheVariants.{Assign, Keep, Put}, declared.op.Operation.Operation, declared.op.Operator.Operator, declared.program.Parts.Parts, declared.program.Show.Show, Code.{Code, Stop, Then, Each}, Faults.target_of, World.{is_column, is_text}}
 use Rattle.star_query_meaning.specs.Answers.{shown_name}
 use Rattle.star_query.specs.declared.token.Relation.TheVariants as sign
 use Rattle.star_program.specs.declared.group.GroupKey.TheVariants as key
@@ -41,8 +37,8 @@ with_loaded env c = record (one_more env) { loaded = env.loaded ++ (c, env.next)
 abbrev pub with_found : Env → TableId → Env
 with_found env t = record (one_more env) { found = env.found ++ (t, env.next) ∷ [] }
 
--- the continuation of a piece: the code that follows, by what is then known and by the register of the
--- piece's result, or by those of its results; each piece below is given it
+-- the continuation of a piece: the code that follows, by what is then known and by the register of
+-- the piece's result, or by those of its results; each piece below is given it
 abbrev pub Rest : Type 0 → Type 0
 Rest R = Env → R → Code
 

@@ -1,6 +1,5 @@
 -- How many rows the run of a query's program looks up by their keys.
-use Rattle.std.specs.Prelude.{◌≡◌, ℕ, ◌+◌, Bool, true, List, ◌∷◌, length, map}
-use Rattle.std.specs.{List.sum_by}
+use Rattle.std.specs.{Prelude.{◌≡◌, ℕ, ◌+◌, Bool, true, List, ◌∷◌, length, map}, List.sum_by}
 use Rattle.star_schema.specs.declared.table.TableId.TheVariants.{Lineorder}
 use Rattle.star_query.specs.Tree.{Tree}
 use Rattle.star_plan.specs.Meaning.{Joined, Plan, Tables, holds, joined_rows}
@@ -25,8 +24,8 @@ turn_lookups p row = lookups_in (turn_code p) (map (λ c. holds c row) p.conjunc
 abbrev pub lookups_of : Tables → Plan → ℕ
 lookups_of ts p = sum_by (turn_lookups p) (joined_rows ts p.joins)
 
--- a run that comes to its end has visited each row of lineorder once, and made an update of each row
--- that the query selects
+-- a run that comes to its end has visited each row of lineorder once, and made an update of each
+-- row that the query selects
 pub record HasCounted (ts : Tables) (query : Tree) (p : Plan) (s : State) : Type 0 where
   pub visits : s.visits ≡ length (ts Lineorder)
   pub lookups : s.lookups ≡ lookups_of ts p

@@ -1,11 +1,10 @@
--- Which number of a query's program is the first that may leave 64 bits, by the bounds of the columns
--- only (interval analysis: Moore, Interval Analysis, 1966).
+-- Which number of a query's program is the first that may leave 64 bits, by the bounds of the
+-- columns only (interval analysis: Moore, Interval Analysis, 1966).
 use Rattle.std.specs.Prelude.{ℕ, ℤ, pos, ◌+◌, ◌+ℤ◌, ◌-ℤ◌, ◌*ℤ◌, Bool, false, ◌||◌, nat_eq, filter, map, Option, Some, None, if◌then◌else◌}
 use Rattle.star_schema.specs.declared.column.{ColumnId.ColumnId, TheConstants.COLUMNS}
 use Rattle.star_interval.specs.Range.{Range, corner_range, fits_i64, only}
 use Rattle.star_plan.specs.Meaning.{Plan}
-use Rattle.star_program.specs.declared.op.{Op.TheVariants.Assign, Operation.Operation, Operation.TheVariants.Binary, Operation.TheVariants.Const, Operation.TheVariants.Load, Operator.TheVariants.Add, Operator.TheVariants.Mul, Operator.TheVariants.Sub}
-use Rattle.star_program.specs.{Code.Code, Code.Then, World.is_column, World.is_text}
+use Rattle.star_program.specs.{declared.op.Op.TheVariants.Assign, declared.op.Operation.Operation, declared.op.Operation.TheVariants.{Binary, Const, Load}, declared.op.Operator.TheVariants.{Add, Mul, Sub}, Code.{Code, Then}, World.{is_column, is_text}}
 use Rattle.star_safety.specs.declared.reason.Reason.{Reason, TheVariants.Overflow}
 use Rattle.star_compile_laws.specs.Compiled.{turn_code}
 

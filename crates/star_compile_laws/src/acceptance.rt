@@ -1,7 +1,6 @@
 //! When nothing refuses a compiled program: exactly if its query fits.
 
-ghost use Rattle.std.specs.Prelude.{◌≡◌, ◌↔◌, ◌≤◌, ◌<◌, ℕ, None, Some, length};
-ghost use Rattle.std.specs.{Option.option_map};
+ghost use Rattle.std.specs.{Prelude.{◌≡◌, ◌↔◌, ◌≤◌, ◌<◌, ℕ, None, Some, length}, Option.option_map};
 ghost use Rattle.star_schema.specs.{Database.Database, Database.rows_in, declared.table.TableId.TheVariants.Lineorder, Columns.bounds_in, Columns.AreBoundsI64};
 ghost use Rattle.star_plan.specs.{Meaning.Plan, Sound.IsSoundPlan, Spelled.IsSpelledPlan};
 ghost use Rattle.star_world.specs.WorldOf.{world_of};

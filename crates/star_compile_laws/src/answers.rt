@@ -22,9 +22,8 @@ pub fn compiled_programs_answer_their_plans()
 /// So the outcome of the program of a well named query is the query's own answer.
 pub fn compiled_programs_answer_their_queries()
     ensures { (database : Database) (w : World) (query : Tree) (p : Plan)
-        → ((table : TableId) → All (IsRowOf table) (rows_in database table))
-        → IsWorldOf database w → IsWellNamed query → IsResolved query p
-        → AnswersTheQuery (rows_in database) w query p }
+        → ((table : TableId) → All (IsRowOf table) (rows_in database table)) → IsWorldOf database w
+        → IsWellNamed query → IsResolved query p → AnswersTheQuery (rows_in database) w query p }
 {}
 
 /// A run of it has visited each row of lineorder once, and made an update of each row that the
@@ -32,15 +31,13 @@ pub fn compiled_programs_answer_their_queries()
 /// keep of its first conjunct that doesn't hold.
 pub fn compiled_programs_count_the_rows()
     ensures { (database : Database) (w : World) (query : Tree) (p : Plan)
-        → ((table : TableId) → All (IsRowOf table) (rows_in database table))
-        → IsWorldOf database w → IsWellNamed query → IsResolved query p
-        → CountsTheRows (rows_in database) w query p }
+        → ((table : TableId) → All (IsRowOf table) (rows_in database table)) → IsWorldOf database w
+        → IsWellNamed query → IsResolved query p → CountsTheRows (rows_in database) w query p }
 {}
 
 /// And its printed text over sound rows, which have a world, is the report of the query's text.
 pub fn compiled_programs_report_their_queries()
-    ensures { (database : Database) (text : List ℕ) (query : Tree) (p : Plan)
-        → IsSound database
+    ensures { (database : Database) (text : List ℕ) (query : Tree) (p : Plan) → IsSound database
         → ((table : TableId) → All (IsRowOf table) (rows_in database table)) → Means text query
         → IsWellNamed query → IsResolved query p → ReportsTheQuery database text p }
 {

@@ -1,17 +1,11 @@
 -- What is printed of the programs of the thirteen queries is what is printed of the queries.
-use Rattle.std.proofs.Common.{◌≡◌, ◌≤◌, ◌<◌, ◌+◌, ◌++◌, ◌∙◌, ℕ, Bool, true, false, List, [], ◌∷◌, Some, ap, append_assoc, arith, drop, inl, inr, length, refl, subst, sym}
-use Rattle.std.proofs.{Math.Bool.and-true, Math.Bool.and_assoc, lemmas.List.append-nil, lemmas.List.drop_all, lemmas.List.length-append}
-use Rattle.std.specs.Prelude.{◌&&◌, ◌↔◌, IsTrue, codes, Result, Err}
-use Rattle.std.specs.{List.AllByRecursion, List.slice_get}
-use Rattle.star_common.proofs.Lists.{drop_at_place}
+use Rattle.std.{proofs.Common.{◌≡◌, ◌≤◌, ◌<◌, ◌+◌, ◌++◌, ◌∙◌, ℕ, Bool, true, false, List, [], ◌∷◌, Some, ap, append_assoc, arith, drop, inl, inr, length, refl, subst, sym}, proofs.Math.Bool.{and-true, and_assoc}, proofs.lemmas.List.{append-nil, drop_all, length-append}, specs.Prelude.{◌&&◌, ◌↔◌, IsTrue, codes, Result, Err}, specs.List.{AllByRecursion, slice_get}}
+use Rattle.star_common.proofs.Lists.{drop_at_index}
 use Rattle.star_schema.specs.Database.{Database}
 use Rattle.star_plan.specs.Meaning.{Plan}
 use Rattle.star_program.specs.declared.program.Parts.{Parts}
 use Rattle.star_compile_laws.specs.Compiled.{compiled}
-use Rattle.star_engine.specs.Bench.{AreSections, IsBenchOver, IsFinding, IsSection, named_quote}
-use Rattle.star_engine.specs.{declared.fault.EngineFault.EngineFault, declared.thirteen.BenchmarkQuery.BenchmarkQuery, declared.thirteen.BenchmarkQuery.TheVariants.Q11, declared.thirteen.TheConstants.THIRTEEN, Answered.Change, Answered.IsAnswered, Answered.IsWritten, Executions.quote_over}
-use Rattle.star_engine.specs.{Notes.quote_line, Queries.FitsRows, Queries.IsPlanOf, Queries.fact_rows, Questions.IsProgramOfQuery, Thirteen.query_name, Thirteen.query_text, Private.BenchSteps.IsRunFound, Private.QuerySteps.HasProgramLaws}
-use Rattle.star_engine.proofs.QueryAnswers.{refusal_shown}
+use Rattle.star_engine.{specs.Bench.{AreSections, IsBenchOver, IsFinding, IsSection, named_quote}, specs.declared.fault.EngineFault.EngineFault, specs.declared.thirteen.BenchmarkQuery.BenchmarkQuery, specs.declared.thirteen.BenchmarkQuery.TheVariants.Q11, specs.declared.thirteen.TheConstants.THIRTEEN, specs.Answered.{Change, IsAnswered, IsWritten}, specs.Executions.quote_over, specs.Notes.quote_line, specs.Queries.{FitsRows, IsPlanOf, fact_rows}, specs.Questions.IsProgramOfQuery, specs.Thirteen.{query_name, query_text}, specs.Private.BenchSteps.IsRunFound, specs.Private.QuerySteps.HasProgramLaws, proofs.QueryAnswers.refusal_shown}
 use Rattle.star_engine.specs.declared.fault.EngineFault.TheVariants as engine
 
 -- ---- one query
@@ -78,10 +72,10 @@ module _ (most : ℕ) (database : Database) where
 
   pub one_section : (all : List BenchmarkQuery) (i : ℕ) (q : BenchmarkQuery) (fits one : Bool)
       (text section : List ℕ) → slice_get all i ≡ Some q → IsSection most database q section
-      → (IsTrue one ↔ FitsRows most database (query_text q))
-      → GoesOn all (drop i all) fits text → GoesOn all (drop (i + 1) all) (fits && one) (text ++ section)
+      → (IsTrue one ↔ FitsRows most database (query_text q)) → GoesOn all (drop i all) fits text
+      → GoesOn all (drop (i + 1) all) (fits && one) (text ++ section)
   one_section all i q fits one text section at is verdict goes fit rest others verdicts =
-      let left : drop i all ≡ q ∷ drop (i + 1) all = drop_at_place all i q at in
+      let left : drop i all ≡ q ∷ drop (i + 1) all = drop_at_index all i q at in
       let whole =
       goes (one && fit) (section ++ rest)
       (subst (λ qs. AreSections most database qs (section ++ rest)) (sym left)

@@ -1,10 +1,6 @@
 -- What a call answers, by its last step, and clause by clause.
-use Rattle.std.proofs.Common.{◌≡◌, ℕ, List, refl}
-use Rattle.std.specs.Prelude.{Result, Ok, Err, IfErr, OnOk}
-use Rattle.star_engine.specs.Answered.{Change, HasWritten, IsAnswered, IsBrokenOff, IsRefused, IsUntouched, IsWritten, OrMemory}
-use Rattle.star_engine.specs.declared.fault.EngineFault.TheVariants.{OutOfMemory, Refused, Write}
-use Rattle.star_engine.specs.WithNotes.{HasWrittenRun, IsAnsweredWithNotes, IsRunBrokenOff, IsRunRefused, IsRunUnwritten, RunText}
-use Rattle.star_engine.specs.{declared.fault.EngineFault.EngineFault}
+use Rattle.std.{proofs.Common.{◌≡◌, ℕ, List, refl}, specs.Prelude.{Result, Ok, Err, IfErr, OnOk}}
+use Rattle.star_engine.specs.{Answered.{Change, HasWritten, IsAnswered, IsBrokenOff, IsRefused, IsUntouched, IsWritten, OrMemory}, declared.fault.EngineFault.TheVariants.{OutOfMemory, Refused, Write}, WithNotes.{HasWrittenRun, IsAnsweredWithNotes, IsRunBrokenOff, IsRunRefused, IsRunUnwritten, RunText}, declared.fault.EngineFault.EngineFault}
 
 -- a fault of a step before anything is written
 pub stopped : {S : Type 0} (A : Type 0) (sink : Change S) (IsText : List ℕ → Type 0)

@@ -1,6 +1,5 @@
 -- What is printed of a program that is checked and then run.
-use Rattle.std.proofs.Common.{◌≡◌, ◌≤◌, ◌<◌, ℕ, List, Some, None, arith, inl, inr, length, refl, ◌∙◌}
-use Rattle.std.specs.Prelude.{◌↔◌}
+use Rattle.std.{proofs.Common.{◌≡◌, ◌≤◌, ◌<◌, ℕ, List, Some, None, arith, inl, inr, length, refl, ◌∙◌}, specs.Prelude.◌↔◌}
 use Rattle.star_common.specs.Memory.{UnlessMemory}
 use Rattle.star_schema.specs.{declared.table.TableId.TableId, Database.Database, Tables.Value}
 use Rattle.star_program.specs.{declared.program.Parts.Parts, Text.Written.written_line, Text.Written.program_text}
@@ -8,10 +7,7 @@ use Rattle.star_partial.specs.Listing.{listing_text, table_line, table_text}
 use Rattle.star_safety.specs.Admissible.{first_refusal, IsAdmissible}
 use Rattle.star_verify.specs.{declared.refusal.Refusal.Refusal, Views.refusal_view}
 use Rattle.star_world.specs.WorldOf.{world_of}
-use Rattle.star_engine.specs.Executions.{IsProgramRun, IsRefusal, IsRunErrorOver, quote_over}
-use Rattle.star_engine.specs.{declared.fault.EngineFault.EngineFault, declared.fault.EngineFault.TheVariants.Refused, Answered.OrMemory, Faults.fault_of_refusal, Listing.listing_of}
-use Rattle.star_engine.specs.{Loads.IsProgramOf, Notes.counts_line, Notes.quote_line, Private.Steps.IsNotVerified, WithNotes.RunText}
-use Rattle.star_engine.proofs.Trials.{report_some}
+use Rattle.star_engine.{specs.Executions.{IsProgramRun, IsRefusal, IsRunErrorOver, quote_over}, specs.declared.fault.EngineFault.EngineFault, specs.declared.fault.EngineFault.TheVariants.Refused, specs.Answered.OrMemory, specs.Faults.fault_of_refusal, specs.Listing.listing_of, specs.Loads.IsProgramOf, specs.Notes.{counts_line, quote_line}, specs.Private.Steps.IsNotVerified, specs.WithNotes.RunText, proofs.Trials.report_some}
 use Rattle.star_safety.specs.Admissible as admissible
 use Rattle.star_verify.specs.declared.refusal.Refusal.TheVariants as why
 
@@ -80,8 +76,8 @@ refused database most program (why.TooCostly visits) none is =
     refusal_of database most program (why.TooCostly visits) _ none (λ memory. cc) is refl
 refused database most program (why.Refused at reason) none is =
     refusal_of database most program (why.Refused at reason) _ none (λ memory. cc) is refl
-refused database most program (why.BadShow place) none is =
-    refusal_of database most program (why.BadShow place) _ none (λ memory. cc) is refl
+refused database most program (why.BadShow index) none is =
+    refusal_of database most program (why.BadShow index) _ none (λ memory. cc) is refl
 
 -- ---- the program of a file
 

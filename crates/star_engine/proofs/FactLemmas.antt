@@ -1,8 +1,6 @@
 -- The facts of loaded tables.
-use Rattle.std.proofs.Common.{◌≡◌, ◌<◌, ◌∙◌, ap, arith, inl, inr, length, sym}
-use Rattle.std.proofs.{lemmas.Option.slice_get_cases}
-use Rattle.star_schema.specs.{declared.column.ColumnId.ColumnId, declared.table.TableId.TableId, Columns.bounds_in, Database.Database, Database.rows_in, Schema.index_of, Sizes.size_of}
-use Rattle.star_schema.proofs.Same.{index_within}
+use Rattle.std.proofs.{Common.{◌≡◌, ◌<◌, ◌∙◌, ap, arith, inl, inr, length, sym}, lemmas.Option.slice_get_cases}
+use Rattle.star_schema.{specs.declared.column.ColumnId.ColumnId, specs.declared.table.TableId.TableId, specs.Columns.bounds_in, specs.Database.{Database, rows_in}, specs.Schema.index_of, specs.Sizes.size_of, proofs.Same.index_within}
 use Rattle.star_partial.specs.{Contents.bounds_at, Contents.range_if, Listing.listing_text}
 use Rattle.star_verify.specs.{Facts.AreFacts, declared.facts.Facts.Facts}
 use Rattle.star_world.specs.WorldOf.{world_of}

@@ -1,10 +1,7 @@
 -- What is answered over the rows of texts that can be loaded is answered over the texts.
-use Rattle.std.proofs.Common.{◌≡◌, ℕ, List}
-use Rattle.std.specs.Prelude.{Result, Ok, Err, IfErr, OnOk}
+use Rattle.std.{proofs.Common.{◌≡◌, ℕ, List}, specs.Prelude.{Result, Ok, Err, IfErr, OnOk}}
 use Rattle.star_schema.specs.{Database.Database, Database.TableTexts, Loadable.IsLoadable, Loadable.database_of}
-use Rattle.star_engine.specs.Answered.{Change, HasWritten, IsAnswered, IsBrokenOff, IsRefused, IsUntouched}
-use Rattle.star_engine.specs.{declared.fault.EngineFault.EngineFault, declared.fault.EngineFault.TheVariants.OutOfMemory, declared.fault.EngineFault.TheVariants.Write, Loads.HoldsOfRows, WithNotes.IsAnsweredWithNotes, WithNotes.RunText}
-use Rattle.star_engine.proofs.{ByClauses.by_clauses, NotedAs.noted_as}
+use Rattle.star_engine.{specs.Answered.{Change, HasWritten, IsAnswered, IsBrokenOff, IsRefused, IsUntouched}, specs.declared.fault.EngineFault.EngineFault, specs.declared.fault.EngineFault.TheVariants.{OutOfMemory, Write}, specs.Loads.HoldsOfRows, specs.WithNotes.{IsAnsweredWithNotes, RunText}, proofs.ByClauses.by_clauses, proofs.NotedAs.noted_as}
 
 -- what is answered of one text is answered of another, where all that is due of the one is due of
 -- the other

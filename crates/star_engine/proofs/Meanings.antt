@@ -1,13 +1,10 @@
 -- What a text means, and that its names are well, where both compute.
 use Rattle.std.proofs.Common.{◌≡◌, ◌∙◌, ◌≤◌, ℕ, List, [], None, Result, Ok, Err, Bool, true, false, refl, length, ap, sym}
-use Rattle.star_query.specs.Private.Phrases.{Query, query_tree, one, plain, ungrouped}
-use Rattle.star_query.specs.{declared.fault.QueryFault.QueryFault, Symbols.Placed, Symbols.symbols, Private.Cut.cut_of, Tree.Name, Tree.Tree, Derives.Means, Private.Machine.Verdict, Private.Machine.Whole, Private.Machine.Bad}
-use Rattle.star_query.proofs.{Cuts.tokens_make_text, Verdicts.derives, Verdicts.one_meaning, Verdicts.verdict_of}
-use Rattle.star_plan.specs.{Faults.plan_fault, WellNamed.IsWellNamed}
-use Rattle.star_plan.proofs.Conditions.{well_named}
+use Rattle.star_query.{specs.Private.Phrases.{Query, query_tree, one, plain, ungrouped}, specs.declared.fault.QueryFault.QueryFault, specs.Symbols.{Placed, symbols}, specs.Private.Cut.cut_of, specs.Tree.{Name, Tree}, specs.Derives.Means, specs.Private.Machine.{Verdict, Whole, Bad}, proofs.Cuts.tokens_make_text, proofs.Verdicts.{derives, one_meaning, verdict_of}}
+use Rattle.star_plan.{specs.Faults.plan_fault, specs.WellNamed.IsWellNamed, proofs.Conditions.well_named}
 
 abbrev pub nameless : Name
-nameless = record { text = []; place = 0 }
+nameless = record { text = []; offset = 0 }
 
 abbrev pub nothing : Query
 nothing = record {

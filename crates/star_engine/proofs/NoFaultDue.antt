@@ -1,11 +1,9 @@
 -- Where a report of a query is due, no fault is.
 use Rattle.std.proofs.Common.{◌≡◌, ℕ, List, Some, None, subst}
 use Rattle.star_schema.specs.{Database.Database, Database.TableTexts, Loadable.database_of}
-use Rattle.star_query.specs.{Derives.Means, Tree.Tree}
-use Rattle.star_query.proofs.Verdicts.{one_meaning}
+use Rattle.star_query.{specs.Derives.Means, specs.Tree.Tree, proofs.Verdicts.one_meaning}
 use Rattle.star_plan.specs.{declared.fault.PlanFault.PlanFault, Faults.plan_fault, WellNamed.IsWellNamed}
-use Rattle.star_engine.specs.Queries.{IsPlanFault, IsQueryRun, IsQueryRunError, IsQueryRunErrorOver, IsQueryRunOver}
-use Rattle.star_engine.specs.{declared.fault.EngineFault.EngineFault, WithNotes.RunText}
+use Rattle.star_engine.specs.{Queries.{IsPlanFault, IsQueryRun, IsQueryRunError, IsQueryRunErrorOver, IsQueryRunOver}, declared.fault.EngineFault.EngineFault, WithNotes.RunText}
 use Rattle.star_query.proofs.FirstFaults as texts
 use Rattle.star_plan.proofs.Conditions as names
 use Rattle.star_engine.specs.declared.fault.EngineFault.TheVariants as engine

@@ -1,10 +1,7 @@
 -- What is answered with notes of one thing is answered of another, where all that is due of the one
--- is
--- due of the other.
-use Rattle.std.proofs.Common.{ℕ, List, inl, inr}
-use Rattle.std.specs.Prelude.{Result, Ok, Err}
-use Rattle.star_engine.specs.WithNotes.{AfterTheReport, BeforeTheReport, InTheReport, IsAnsweredWithNotes, IsBroken, RunText}
-use Rattle.star_engine.specs.{declared.fault.EngineFault.EngineFault, declared.fault.EngineFault.TheVariants.OutOfMemory, declared.fault.EngineFault.TheVariants.Refused, declared.fault.EngineFault.TheVariants.Write, Answered.Change}
+-- is due of the other.
+use Rattle.std.{proofs.Common.{ℕ, List, inl, inr}, specs.Prelude.{Result, Ok, Err}}
+use Rattle.star_engine.specs.{WithNotes.{AfterTheReport, BeforeTheReport, InTheReport, IsAnsweredWithNotes, IsBroken, RunText}, declared.fault.EngineFault.EngineFault, declared.fault.EngineFault.TheVariants.{OutOfMemory, Refused, Write}, Answered.Change}
 
 broken_as : {S N : Type 0} (out : Change S) (notes : Change N) (Quote OtherQuote : List ℕ → Type 0)
     (Run OtherRun : RunText → Type 0) (sent : ℕ) → ((note : List ℕ) → Quote note → OtherQuote note)

@@ -1,11 +1,7 @@
 -- What a call that runs a program answers, by its steps.
-use Rattle.std.proofs.Common.{◌≡◌, ◌+◌, ◌++◌, ℕ, List, Option, Bool, arith, inl, inr, length, refl, subst, sym, take}
-use Rattle.std.proofs.{KnownBytes.Appends-trans, Math.Seq.take-append-add, lemmas.List.length-append}
-use Rattle.std.specs.Prelude.{Result, Ok, Err}
+use Rattle.std.{proofs.Common.{◌≡◌, ◌+◌, ◌++◌, ℕ, List, Option, Bool, arith, inl, inr, length, refl, subst, sym, take}, proofs.KnownBytes.Appends-trans, proofs.Math.Seq.take-append-add, proofs.lemmas.List.length-append, specs.Prelude.{Result, Ok, Err}}
 use Rattle.star_verify.specs.declared.refusal.Refusal.{Refusal}
-use Rattle.star_engine.specs.Answered.{Change, HasGained, HasGainedPart, IsUntouched, IsWritten, OrMemory, change}
-use Rattle.star_engine.specs.WithNotes.{AfterTheReport, BeforeTheReport, InTheReport, IsAnsweredWithNotes, RunText}
-use Rattle.star_engine.specs.{declared.fault.EngineFault.EngineFault, declared.fault.EngineFault.TheVariants.OutOfMemory, declared.fault.EngineFault.TheVariants.Refused, declared.fault.EngineFault.TheVariants.Write, Private.Steps.AreBothWritten, Private.Steps.IsPart}
+use Rattle.star_engine.specs.{Answered.{Change, HasGained, HasGainedPart, IsUntouched, IsWritten, OrMemory, change}, WithNotes.{AfterTheReport, BeforeTheReport, InTheReport, IsAnsweredWithNotes, RunText}, declared.fault.EngineFault.EngineFault, declared.fault.EngineFault.TheVariants.{OutOfMemory, Refused, Write}, Private.Steps.{AreBothWritten, IsPart}}
 
 -- a fault before anything is written, which is no refusal
 pub noted_stopped : {S N : Type 0} (out : Change S) (notes : Change N) (IsQuote : List ℕ → Type 0)
@@ -33,9 +29,8 @@ report_broken out notes text report done _ is part same = absurd part
 -- the note of the quote was not written whole
 pub note_broken : {S N : Type 0} (out : Change S) (notes : Change N) (IsQuote : List ℕ → Type 0)
     (IsRun : RunText → Type 0) (IsDue : EngineFault → Type 0) (note : List ℕ)
-    (result : Result (Unit {0}) EngineFault)
-    → result ≡ Err (Write 0) → IsQuote note → IsPart notes note → IsUntouched out
-    → IsAnsweredWithNotes out notes IsQuote IsRun IsDue result
+    (result : Result (Unit {0}) EngineFault) → result ≡ Err (Write 0) → IsQuote note
+    → IsPart notes note → IsUntouched out → IsAnsweredWithNotes out notes IsQuote IsRun IsDue result
 note_broken out notes IsQuote IsRun IsDue note result is quote part same =
     rw is (BeforeTheReport note quote part.0 part.1 same refl)
 

@@ -1,15 +1,11 @@
 -- A file's report over some tables is one, and where it is due, no fault is.
 use Rattle.std.proofs.Common.{◌≡◌, ◌∙◌, ℕ, List, subst, sym}
 use Rattle.star_schema.specs.{Loadable.database_of, Database.Database, Database.TableTexts}
-use Rattle.star_program.specs.{declared.outcome.Outcome.Outcome, declared.program.Parts.Parts, Outcome.IsOutcome, Run.End, Run.bounded_run_of, World.World}
-use Rattle.star_program.proofs.{Text.OneProgram.one_program, Text.Faultless.never_both}
-use Rattle.star_report.specs.Report.{report_text}
-use Rattle.star_report.proofs.OneOrder.{one_outcome}
+use Rattle.star_program.{specs.declared.outcome.Outcome.Outcome, specs.declared.program.Parts.Parts, specs.Outcome.IsOutcome, specs.Run.{End, bounded_run_of}, specs.World.World, proofs.Text.OneProgram.one_program, proofs.Text.Faultless.never_both}
+use Rattle.star_report.{specs.Report.report_text, proofs.OneOrder.one_outcome}
 use Rattle.star_outcome.specs.Yields.{Yields}
 use Rattle.star_world.specs.WorldOf.{world_of}
-use Rattle.star_engine.specs.Executions.{IsAcceptedWithin, IsFileReport, IsRunError, IsRunErrorOver, IsRunOf, IsRunOver}
-use Rattle.star_engine.specs.declared.fault.EngineFault.TheVariants.{Load, Program, Refused}
-use Rattle.star_engine.specs.{declared.fault.EngineFault.EngineFault, WithNotes.RunText, Trials.IsBoundedReport}
+use Rattle.star_engine.specs.{Executions.{IsAcceptedWithin, IsFileReport, IsRunError, IsRunErrorOver, IsRunOf, IsRunOver}, declared.fault.EngineFault.TheVariants.{Load, Program, Refused}, declared.fault.EngineFault.EngineFault, WithNotes.RunText, Trials.IsBoundedReport}
 
 -- a run that comes to its end has one outcome
 yields_one : (w : World) (parts : Parts) (end : End) (a b : Outcome) → Yields w parts end a

@@ -1,10 +1,7 @@
 -- One more piece of a file of a table.
-use Rattle.std.proofs.Common.{◌≡◌, ◌+◌, ◌<◌, ◌≤◌, ◌∙◌, ℕ, List, [], ◌++◌, Option, length, refl, arith, append_assoc}
-use Rattle.std.proofs.{lemmas.Grind.common_steps, lemmas.List.append-nil, lemmas.List.length-append}
-use Rattle.std.specs.{Prelude.◌-◌, Prelude.◌^◌, Prelude.min, Io.KnownBytes.Consumes}
+use Rattle.std.{proofs.Common.{◌≡◌, ◌+◌, ◌<◌, ◌≤◌, ◌∙◌, ℕ, List, [], ◌++◌, Option, length, refl, arith, append_assoc}, proofs.lemmas.Grind.common_steps, proofs.lemmas.List.{append-nil, length-append}, specs.Prelude.{◌-◌, ◌^◌, min}, specs.Io.KnownBytes.Consumes}
 use Rattle.star_reader.specs.Partway.{Reading}
-use Rattle.star_engine.specs.Reading.{ReadingGoesOn, came_of, has_failed, reader_of, reads_of}
-use Rattle.star_engine.specs.{declared.input.Input.Input, Private.PieceSteps.HasFed}
+use Rattle.star_engine.specs.{Reading.{ReadingGoesOn, came_of, has_failed, reader_of, reads_of}, declared.input.Input.Input, Private.PieceSteps.HasFed}
 
 -- known bytes that are consumed one after another
 consumed_on : (a b c : Option (List ℕ)) (x y : List ℕ) → Consumes a b x → Consumes b c y

@@ -1,20 +1,14 @@
 -- The plain programs of queries: they are accepted if their queries fit, and count as these do.
-use Rattle.std.proofs.Common.{◌≡◌, ◌↔◌, ◌∙◌, ℕ, List, Option, Some, None, MatchOption, refl, subst, sym, true}
-use Rattle.std.proofs.{lemmas.List.Sorted.length_permutation}
-use Rattle.std.specs.Prelude.{All}
+use Rattle.std.{proofs.Common.{◌≡◌, ◌↔◌, ◌∙◌, ℕ, List, Option, Some, None, MatchOption, refl, subst, sym, true}, proofs.lemmas.List.Sorted.length_permutation, specs.Prelude.All}
 use Rattle.star_schema.specs.{declared.table.TableId.TableId, Database.Database, Database.rows_in, Tables.IsRowOf}
 use Rattle.star_plan.specs.{Meaning.Plan, Meaning.plan_rows, Sound.IsSoundPlan, Spelled.IsSpelledPlan}
 use Rattle.star_program.specs.{declared.outcome.Outcome.Outcome, declared.program.Parts.Parts, Run.run_of}
 use Rattle.star_outcome.specs.Yields.{Yields}
 use Rattle.star_world.specs.{RowsSeen.IsWorldOf, WorldOf.world_of}
-use Rattle.star_query_meaning.specs.{Fitting.PlanFitsTables, Rows.selected}
-use Rattle.star_query_meaning.proofs.OwnWords.{selected_reordered}
-use Rattle.star_compile_laws.specs.Compiled.{compiled}
-use Rattle.star_compile_laws.proofs.{Answered.answers_the_plan, Rows.counts_the_rows, SeenRows.sees}
-use Rattle.star_merge_laws.specs.Plain.{plain_plan}
-use Rattle.star_merge_laws.proofs.PartialFacts.{plain_sound}
-use Rattle.star_engine.specs.{Executions.IsAcceptedWithin, Partials.IsPlainOutcome, Private.PartialSteps.HasPlainProgramLaws, Private.PartialSteps.IsPlainProgram, Private.PartialSteps.IsRunIfAccepted, Queries.FitsRows, Queries.IsPlanOf}
-use Rattle.star_engine.proofs.PlansOfQueries.{plan_sound, plan_spelled}
+use Rattle.star_query_meaning.{specs.Fitting.PlanFitsTables, specs.Rows.selected, proofs.OwnWords.selected_reordered}
+use Rattle.star_compile_laws.{specs.Compiled.compiled, proofs.Answered.answers_the_plan, proofs.Rows.counts_the_rows, proofs.SeenRows.sees}
+use Rattle.star_merge_laws.{specs.Plain.plain_plan, proofs.PartialFacts.plain_sound}
+use Rattle.star_engine.{specs.Executions.IsAcceptedWithin, specs.Partials.IsPlainOutcome, specs.Private.PartialSteps.{HasPlainProgramLaws, IsPlainProgram, IsRunIfAccepted}, specs.Queries.{FitsRows, IsPlanOf}, proofs.PlansOfQueries.{plan_sound, plan_spelled}}
 
 pub sound_plain : (query : List ℕ) (p : Plan) → IsPlanOf query p → IsSoundPlan (plain_plan p)
 sound_plain query p meant = plain_sound p (plan_sound query p meant)
@@ -25,7 +19,8 @@ spelled_plain query p meant = let s = plan_spelled query p meant in
 
 -- what a plan aggregates decides whether it fits
 pub fits_plain : (most : ℕ) (database : Database) (p : Plan)
-    → PlanFitsTables most (rows_in database) p ↔ PlanFitsTables most (rows_in database) (plain_plan p)
+    → PlanFitsTables most (rows_in database) p
+    ↔ PlanFitsTables most (rows_in database) (plain_plan p)
 fits_plain most database p = (
   λ fits. record { visits = fits.visits; nodes = fits.nodes },
   λ fits. record { visits = fits.visits; nodes = fits.nodes },
@@ -43,7 +38,8 @@ ran_plain database query p meant rows world outcome yields =
     let seen = sees database w rows world in
     let sound = sound_plain query p meant in
     let told = yields.told in
-    let counted = counts_the_rows ts w seen (plain_plan p) sound (λ v. true) yields.s yields.ended in
+    let counted = counts_the_rows ts w seen (plain_plan p) sound
+    (λ v. true) yields.s yields.ended in
     record {
       answer =
           answers_the_plan ts w seen (plain_plan p) sound (λ v. true) yields.s outcome yields.ended

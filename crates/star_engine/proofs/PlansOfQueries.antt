@@ -1,9 +1,7 @@
 -- What holds of the plan of a query's text.
 use Rattle.std.proofs.Common.{ℕ, List}
-use Rattle.star_query.proofs.{Spelled.meant_spelled, Within.derived_within}
-use Rattle.star_query.specs.Limits.{IsQueryWithinLimits}
-use Rattle.star_plan.specs.{Limits.IsPlanWithinLimits, Meaning.Plan, Sound.IsSoundPlan, Spelled.IsSpelledPlan}
-use Rattle.star_plan.proofs.{Conditions.no_fault, Kept.kept_sound, Kept.kept_spelled, Kept.kept_within}
+use Rattle.star_query.{proofs.Spelled.meant_spelled, proofs.Within.derived_within, specs.Limits.IsQueryWithinLimits}
+use Rattle.star_plan.{specs.Limits.IsPlanWithinLimits, specs.Meaning.Plan, specs.Sound.IsSoundPlan, specs.Spelled.IsSpelledPlan, proofs.Conditions.no_fault, proofs.Kept.{kept_sound, kept_spelled, kept_within}}
 use Rattle.star_engine.specs.Queries.{IsPlanOf}
 
 few : (query : List ℕ) (p : Plan) (h : IsPlanOf query p) → IsQueryWithinLimits h.tree

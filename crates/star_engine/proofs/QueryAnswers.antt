@@ -4,8 +4,7 @@ use Rattle.star_schema.specs.Database.{Database}
 use Rattle.star_plan.specs.Meaning.{Plan}
 use Rattle.star_verify.specs.declared.refusal.Refusal.{Refusal}
 use Rattle.star_compile_laws.specs.{Compiled.compiled, Judged.IsOverflow}
-use Rattle.star_engine.specs.Queries.{FitsRows, IsPlanOf, IsQueryRefusal, IsQueryRunErrorOver, IsQueryRunOver}
-use Rattle.star_engine.specs.{declared.fault.EngineFault.EngineFault, Executions.IsRefusal, Executions.IsProgramRun, WithNotes.RunText, Notes.counts_line, Notes.quote_line, Private.QuerySteps.HasProgramLaws, Private.Steps.IsNotVerified}
+use Rattle.star_engine.specs.{Queries.{FitsRows, IsPlanOf, IsQueryRefusal, IsQueryRunErrorOver, IsQueryRunOver}, declared.fault.EngineFault.EngineFault, Executions.{IsRefusal, IsProgramRun}, WithNotes.RunText, Notes.{counts_line, quote_line}, Private.QuerySteps.HasProgramLaws, Private.Steps.IsNotVerified}
 use Rattle.star_engine.specs.declared.fault.EngineFault.TheVariants as engine
 
 module _ (most : ℕ) (database : Database) (query : List ℕ) (p : Plan)

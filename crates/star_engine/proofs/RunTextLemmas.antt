@@ -1,16 +1,11 @@
 -- What is printed of a file, by what is printed of its program.
-use Rattle.std.proofs.Common.{◌∙◌, ℕ, Bool, true, false, List, ap, subst}
-use Rattle.std.specs.Prelude.{MatchResult, Result, Ok, Err}
+use Rattle.std.{proofs.Common.{◌∙◌, ℕ, Bool, true, false, List, ap, subst}, specs.Prelude.{MatchResult, Result, Ok, Err}}
 use Rattle.star_schema.specs.{Database.Database, Database.TableTexts, Loadable.IsLoadable, Loadable.database_of}
 use Rattle.star_verify.specs.declared.refusal.Refusal.{Refusal}
 use Rattle.star_plan.specs.Meaning.{Plan}
 use Rattle.star_compile_laws.specs.Compiled.{compiled}
 use Rattle.star_program.specs.declared.program.Parts.{Parts}
-use Rattle.star_engine.specs.RunTexts.{IsForecastErrorOfKind, IsForecastOfKind, IsProgramForecast, IsRunOfKind, most_rows_over}
-use Rattle.star_engine.specs.{Private.TextSteps.IsQuoteOfTexts, Private.TextSteps.IsRunErrorOfTexts, Private.TextSteps.IsRunOfTexts}
-use Rattle.star_engine.specs.{declared.fault.EngineFault.EngineFault, declared.fault.EngineFault.TheVariants.Load, declared.fault.EngineFault.TheVariants.Refused, Answered.Change, Answered.OrMemory, Executions.IsProgramRun, Executions.IsQuote, Executions.quote_over, Loads.IsLoadError}
-use Rattle.star_engine.specs.{WithNotes.IsAnsweredWithNotes, WithNotes.RunText, Notes.forecast_line, Notes.quote_line, Queries.IsPlanOf, Questions.IsProgramOfKind, QuoteTexts.IsErrorOfKind, QuoteTexts.IsQuoteOfKindOver, QuoteTexts.IsQuoteErrorOfKind, Private.QuerySteps.HasProgramLaws, Private.Steps.IsNotVerified}
-use Rattle.star_engine.proofs.{Executing.fault_of_program, Loaded.noted_over, NotedAs.noted_as, QueryAnswers.fault_told, QueryAnswers.report_written, QueryFaults.or_memory}
+use Rattle.star_engine.{specs.RunTexts.{IsForecastErrorOfKind, IsForecastOfKind, IsProgramForecast, IsRunOfKind, most_rows_over}, specs.Private.TextSteps.{IsQuoteOfTexts, IsRunErrorOfTexts, IsRunOfTexts}, specs.declared.fault.EngineFault.EngineFault, specs.declared.fault.EngineFault.TheVariants.{Load, Refused}, specs.Answered.{Change, OrMemory}, specs.Executions.{IsProgramRun, IsQuote, quote_over}, specs.Loads.IsLoadError, specs.WithNotes.{IsAnsweredWithNotes, RunText}, specs.Notes.{forecast_line, quote_line}, specs.Queries.IsPlanOf, specs.Questions.IsProgramOfKind, specs.QuoteTexts.{IsErrorOfKind, IsQuoteOfKindOver, IsQuoteErrorOfKind}, specs.Private.QuerySteps.HasProgramLaws, specs.Private.Steps.IsNotVerified, proofs.Executing.fault_of_program, proofs.Loaded.noted_over, proofs.NotedAs.noted_as, proofs.QueryAnswers.{fault_told, report_written}, proofs.QueryFaults.or_memory}
 use Rattle.star_engine.specs.declared.fault.EngineFault.TheVariants as engine
 
 -- a file that was not read
@@ -82,8 +77,7 @@ module _ (most : ℕ) (database : Database) (file : List ℕ) (program : Parts)
       (IsProgramRun database most program) (IsNotVerified database most program) result
       → IsAnsweredWithNotes out notes (IsQuoteOfKindOver is_program database file)
       (IsRunOfKind is_program most database file)
-      (IsForecastErrorOfKind is_program most database file)
-      result
+      (IsForecastErrorOfKind is_program most database file) result
   noted out notes result is_program of_kind is =
       noted_as out notes (IsQuote database program) (IsQuoteOfKindOver is_program database file)
       (IsProgramRun database most program) (IsRunOfKind is_program most database file)

@@ -1,14 +1,8 @@
 -- Keys in order, and spans that hold them.
-use Rattle.std.proofs.Common.{◌≡◌, ◌<◌, ◌+◌, ◌≤◌, ◌⊎◌, ℕ, zero, suc, ℤ, true, false, List, [], ◌∷◌, Option, Some, None, ap, arith, inl, inr, length, ltb, map, refl, subst, sym, true≢false, ◌∙◌}
-use Rattle.std.proofs.lemmas.Option.{get_or_from_slice_get, same_Some, slice_get-get_or, slice_get-map, slice_get_within}
-use Rattle.std.proofs.{lemmas.Bool.cases_Bool, lemmas.Bool.ltb-false, lemmas.Bool.ltb-true, lemmas.List.length-map, lemmas.List.Elements.All-from_recursion, lemmas.Cmp.int_cmp_total, lemmas.Cmp.lists_total, lemmas.Cmp.tied_itself}
-use Rattle.std.specs.{Prelude.All, Prelude.Contains, Cmp.IsTotalOrder, List.slice_get, Option.option_map, Ordering.is_le, Ordering.is_lt, Ordering.ordering_reverse, Ordering.ordering_then, declared.cmp.Ordering.Ordering, declared.cmp.Ordering.TheVariants.Less}
-use Rattle.std.specs.{declared.cmp.Ordering.TheVariants.Equal, declared.cmp.Ordering.TheVariants.Greater}
+use Rattle.std.{proofs.Common.{◌≡◌, ◌<◌, ◌+◌, ◌≤◌, ◌⊎◌, ℕ, zero, suc, ℤ, true, false, List, [], ◌∷◌, Option, Some, None, ap, arith, inl, inr, length, ltb, map, refl, subst, sym, true≢false, ◌∙◌}, proofs.lemmas.Option.{get_or_from_slice_get, same_Some, slice_get-get_or, slice_get-map, slice_get_within}, proofs.lemmas.Bool.{cases_Bool, ltb-false, ltb-true}, proofs.lemmas.List.length-map, proofs.lemmas.List.Elements.All-from_recursion, proofs.lemmas.Cmp.{int_cmp_total, lists_total, tied_itself}, specs.Prelude.{All, Contains}, specs.Cmp.IsTotalOrder, specs.List.slice_get, specs.Option.option_map, specs.Ordering.{is_le, is_lt, ordering_reverse, ordering_then}, specs.declared.cmp.Ordering.Ordering, specs.declared.cmp.Ordering.TheVariants.{Less, Equal, Greater}}
 use Rattle.star_common.proofs.Members.{of_each}
-use Rattle.star_schema.specs.{declared.column.ColumnId.TheVariants.LoLinenumber, declared.column.ColumnId.TheVariants.LoOrderkey, declared.table.TableId.TableId, declared.table.TableId.TheVariants.Lineorder, Bounds.numbers_at, Bounds.numbers_of, Loadable.key_numbers, Loadable.keys_of}
-use Rattle.star_schema.specs.{Loadable.number_at, Schema.key_of, Tables.Value}
-use Rattle.star_merge_laws.specs.Parts.{key_list_cmp}
-use Rattle.star_merge_laws.proofs.LoadableParts.{less_upto}
+use Rattle.star_schema.specs.{declared.column.ColumnId.TheVariants.{LoLinenumber, LoOrderkey}, declared.table.TableId.TableId, declared.table.TableId.TheVariants.Lineorder, Bounds.{numbers_at, numbers_of}, Loadable.{key_numbers, keys_of, number_at}, Schema.key_of, Tables.Value}
+use Rattle.star_merge_laws.{specs.Parts.key_list_cmp, proofs.LoadableParts.less_upto}
 use Rattle.star_partial.specs.declared.partial.LineKey.{LineKey}
 use Rattle.star_engine.specs.{Partials.line_numbers, Private.PartialSteps.IsUpTo}
 
@@ -57,18 +51,26 @@ pub record IsSpanOf (keys : List (List ℤ)) (row : ℕ) (low high : List ℤ) :
 
 contains_at : (keys : List (List ℤ)) (k : ℕ) (key : List ℤ) → slice_get keys k ≡ Some key
     → Contains keys key
-contains_at keys k key e = (k, slice_get_within keys k key e, get_or_from_slice_get keys k key key e)
+contains_at keys k key e =
+    (k, slice_get_within keys k key e, get_or_from_slice_get keys k key key e)
 
 pub first_span : (keys : List (List ℤ)) (key : List ℤ) → slice_get keys 0 ≡ Some key
     → IsSpanOf keys 1 key key
 first_span keys key at =
-    record { within = within; low_there = contains_at keys 0 key at; high_there = contains_at keys 0 key at }
+    record {
+      within = within;
+      low_there = contains_at keys 0 key at;
+      high_there =
+          contains_at keys 0 key at;
+    }
   where
     within : (k : ℕ) (other : List ℤ) → k < 1 → slice_get keys k ≡ Some other
         → IsUpTo key other × IsUpTo other key
     within zero other below e =
-        let same : key ≡ other = same_Some _ _ (sym at ∙ e) in
-        (subst (λ k. IsUpTo key k) same (upto_itself key), subst (λ k. IsUpTo k key) same (upto_itself key))
+        let same : key ≡ other = same_Some _ _ (sym at ∙ e) in (
+          subst (λ k. IsUpTo key k) same (upto_itself key),
+          subst (λ k. IsUpTo k key) same (upto_itself key),
+        )
     within (suc k) other below e = absurd (omega (arith, below))
 
 pub wider_span : (keys : List (List ℤ)) (row : ℕ) (low high key new_low new_high : List ℤ)
@@ -92,8 +94,10 @@ wider_span keys row low high key new_low new_high is at low_low low_key high_hig
         → IsUpTo new_low one × IsUpTo one new_high
     within k one below e = elim (cases_Bool (ltb k row)) [
       | inl before ↦
-          let old = is.within k one (ltb-true k row before) e in
-          (upto_through new_low low one low_low old.0, upto_through one high new_high old.1 high_high)
+          let old = is.within k one (ltb-true k row before) e in (
+            upto_through new_low low one low_low old.0,
+            upto_through one high new_high old.1 high_high,
+          )
       | inr not_before ↦
           let past : row ≤ k = ltb-false k row not_before in
           let last : k ≡ row = omega (arith, past, below) in

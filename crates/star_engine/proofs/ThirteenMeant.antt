@@ -4,11 +4,8 @@ use Rattle.star_common.specs.First.{first_answer}
 use Rattle.star_schema.specs.Schema.{column_of, table_name}
 use Rattle.star_query.specs.{Private.Cut.cut_from, Private.Cut.reserved, Private.Cut.reserved_words, Derives.Means, Symbols.spelling, Tree.Tree}
 use Rattle.star_query.proofs.FirstFaults.{no_fault as no_first_fault}
-use Rattle.star_plan.specs.{Faults.plan_fault, Names.column_called, Names.has_name, Names.table_called, Naming.function_word, Naming.has_text, WellNamed.IsWellNamed}
-use Rattle.star_plan.proofs.Conditions.{no_fault}
-use Rattle.star_engine.specs.declared.thirteen.BenchmarkQuery.TheVariants.{Q11, Q12, Q13, Q21, Q22, Q23, Q31, Q32, Q33, Q34, Q41, Q42, Q43}
-use Rattle.star_engine.specs.{declared.fault.EngineFault.EngineFault, declared.thirteen.BenchmarkQuery.BenchmarkQuery, Queries.IsQueryError, Thirteen.query_text}
-use Rattle.star_engine.proofs.Meanings.{IsWorked, are_named, meaning, means}
+use Rattle.star_plan.{specs.Faults.plan_fault, specs.Names.{column_called, has_name, table_called}, specs.Naming.{function_word, has_text}, specs.WellNamed.IsWellNamed, proofs.Conditions.no_fault}
+use Rattle.star_engine.{specs.declared.thirteen.BenchmarkQuery.TheVariants.{Q11, Q12, Q13, Q21, Q22, Q23, Q31, Q32, Q33, Q34, Q41, Q42, Q43}, specs.declared.fault.EngineFault.EngineFault, specs.declared.thirteen.BenchmarkQuery.BenchmarkQuery, specs.Queries.IsQueryError, specs.Thirteen.query_text, proofs.Meanings.{IsWorked, are_named, meaning, means}}
 use Rattle.star_engine.specs.declared.fault.EngineFault.TheVariants as engine
 
 pub worked : (q : BenchmarkQuery) → IsWorked (query_text q)

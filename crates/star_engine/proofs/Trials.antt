@@ -1,7 +1,5 @@
 -- What a trial over loaded tables answers.
-use Rattle.std.proofs.Common.{◌<◌, ◌++◌, ℕ, List, arith, codes, length}
-use Rattle.std.proofs.{lemmas.List.length-append}
-use Rattle.std.specs.List.{flat_map, join_with_byte}
+use Rattle.std.{proofs.Common.{◌<◌, ◌++◌, ℕ, List, arith, codes, length}, proofs.lemmas.List.length-append, specs.List.{flat_map, join_with_byte}}
 use Rattle.star_schema.specs.{Loadable.IsLoadable, Loadable.database_of, Database.Database, Database.TableTexts}
 use Rattle.star_program.specs.{declared.outcome.Cell.Cell, declared.program.Parts.Parts, Run.bounded_run_of}
 use Rattle.star_report.specs.Report.{line_text, report_text, row_text}
@@ -21,9 +19,9 @@ no_trial_over most texts file visits (engine.Trial fault) loadable is =
 no_trial_over most texts file visits (engine.Program fault) loadable is = is
 no_trial_over most texts file visits _ loadable is = absurd is
 
-pub no_trial_unloaded : (most : ℕ) (texts : TableTexts) (file : List ℕ) (visits : ℕ) (program : Parts)
-    → IsProgramOf file program → (fault : EngineFault) → IsLoadError most texts fault
-    → IsTrialError most texts file visits fault
+pub no_trial_unloaded : (most : ℕ) (texts : TableTexts) (file : List ℕ) (visits : ℕ)
+    (program : Parts) → IsProgramOf file program → (fault : EngineFault)
+    → IsLoadError most texts fault → IsTrialError most texts file visits fault
 no_trial_unloaded most texts file visits program of_file (engine.Load fault) is =
     ((program, of_file), is)
 no_trial_unloaded most texts file visits program of_file _ is = absurd is

@@ -1,6 +1,5 @@
 -- The result of a call that writes a text: the whole text that is due, or an error.
-use Rattle.std.specs.Prelude.{◌≡◌, ◌<◌, ℕ, List, Option, Bool, true, false, Result, Ok, Err, length, take}
-use Rattle.std.specs.{Io.KnownBytes.Appends}
+use Rattle.std.specs.{Prelude.{◌≡◌, ◌<◌, ℕ, List, Option, Bool, true, false, Result, Ok, Err, length, take}, Io.KnownBytes.Appends}
 use Rattle.star_engine.specs.{declared.fault.EngineFault.EngineFault, declared.fault.EngineFault.TheVariants.OutOfMemory, declared.fault.EngineFault.TheVariants.Write}
 
 -- a sink before and after a call, with the bytes that such a sink holds, if they are known, and

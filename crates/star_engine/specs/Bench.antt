@@ -1,6 +1,5 @@
 -- The text of `bench`: for each query of the benchmark its quote, then its report or its refusal.
-use Rattle.std.specs.Prelude.{◌≡◌, ◌++◌, ◌⊎◌, ℕ, List, [], ◌∷◌, codes}
-use Rattle.std.specs.{List.AllByRecursion}
+use Rattle.std.specs.{Prelude.{◌≡◌, ◌++◌, ◌⊎◌, ℕ, List, [], ◌∷◌, codes}, List.AllByRecursion}
 use Rattle.star_schema.specs.Database.{Database, TableTexts}
 use Rattle.star_verify.specs.{declared.refusal.Refusal.Refusal, RefusalTexts.refusal_text}
 use Rattle.star_query_meaning.specs.Reports.{IsReport}

@@ -6,8 +6,7 @@ use Rattle.star_program.specs.Text.FaultTexts as program
 use Rattle.star_catalogue.specs.FaultTexts as load
 use Rattle.star_verify.specs.RefusalTexts.{refusal_text}
 use Rattle.star_trial.specs.FaultTexts as trial
-use Rattle.star_engine.specs.declared.fault.EngineFault.{EngineFault}
-use Rattle.star_engine.specs.declared.fault.EngineFault.TheVariants.{OutOfMemory, Query, Plan, Program, Load, Refused, Trial, Write}
+use Rattle.star_engine.specs.declared.fault.EngineFault.{EngineFault, TheVariants.{OutOfMemory, Query, Plan, Program, Load, Refused, Trial, Write}}
 
 unfoldable pub engine_fault_text : EngineFault → List ℕ
 engine_fault_text OutOfMemory = codes "memory"

@@ -11,8 +11,7 @@ use Rattle.star_program.specs.declared.spelling.fault.TextFault.{TextFault}
 use Rattle.star_program.specs.declared.spelling.fault.TextFault.TheVariants as text
 use Rattle.star_verify.specs.declared.refusal.Refusal.{Refusal}
 use Rattle.star_verify.specs.declared.refusal.Refusal.TheVariants as refusal
-use Rattle.star_engine.specs.declared.fault.EngineFault.{EngineFault}
-use Rattle.star_engine.specs.declared.fault.EngineFault.TheVariants.{Load, OutOfMemory, Plan, Program, Query, Refused, Trial}
+use Rattle.star_engine.specs.declared.fault.EngineFault.{EngineFault, TheVariants.{Load, OutOfMemory, Plan, Program, Query, Refused, Trial}}
 
 abbrev pub fault_of_query : QueryFault → EngineFault
 fault_of_query query.OutOfMemory = OutOfMemory

@@ -1,6 +1,5 @@
 -- The partial of a query over the rows of five tables.
-use Rattle.std.specs.Prelude.{◌≡◌, ℕ, ℤ, List, [], ◌∷◌, MatchOption, Option, length}
-use Rattle.std.specs.{Option.option_map}
+use Rattle.std.specs.{Prelude.{◌≡◌, ℕ, ℤ, List, [], ◌∷◌, MatchOption, Option, length}, Option.option_map}
 use Rattle.star_schema.specs.{declared.column.ColumnId.ColumnId, declared.table.TableId.TableId, declared.table.TableId.TheVariants.Lineorder, Columns.bounds_in, Database.Database, Database.rows_in, Loadable.keys_of}
 use Rattle.star_plan.specs.Meaning.{Plan}
 use Rattle.star_program.specs.declared.outcome.Outcome.{Outcome}

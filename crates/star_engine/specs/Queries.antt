@@ -112,8 +112,7 @@ pub record IsQueryRunOver (visits : ℕ) (database : Database) (query : List ℕ
   pub reported : IsReport database query run.report
   pub p : Plan
   pub meant : IsPlanOf query p
-  pub done : run.done
-      ≡ counts_line (fact_rows database) (lookups_of (rows_in database) p)
+  pub done : run.done ≡ counts_line (fact_rows database) (lookups_of (rows_in database) p)
       (length (selected (rows_in database) meant.tree))
 
 -- the report of the query that a text means, over five texts that can be loaded

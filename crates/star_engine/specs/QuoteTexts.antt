@@ -1,6 +1,5 @@
 -- The quote of a file: that of its program, or of the program of its query.
-use Rattle.std.specs.Prelude.{ℕ, nat_eq, Bool, true, false, List, codes}
-use Rattle.std.specs.{List.starts_with}
+use Rattle.std.specs.{Prelude.{ℕ, nat_eq, Bool, true, false, List, codes}, List.starts_with}
 use Rattle.star_schema.specs.Database.{Database, TableTexts}
 use Rattle.star_engine.specs.{declared.fault.EngineFault.EngineFault, Executions.IsQuoteOver, Loads.HoldsOfRows, Loads.IsProgramError, Loads.IsProgramInputError, Queries.IsQueryError, Queries.IsQueryQuoteOver, Queries.IsQueryInputError}
 

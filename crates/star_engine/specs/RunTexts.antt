@@ -6,8 +6,7 @@ use Rattle.star_safety.specs.MostRows.{most_report_rows}
 use Rattle.star_compile_laws.specs.Compiled.{compiled}
 use Rattle.star_plan.specs.Meaning.{Plan}
 use Rattle.star_program.specs.declared.program.Parts.{Parts}
-use Rattle.star_engine.specs.Queries.{FitsRows, IsPlanOf, IsQueryRunErrorOver, IsQueryRunOver, fact_rows}
-use Rattle.star_engine.specs.{declared.fault.EngineFault.EngineFault, declared.executions.RunOutput.RunOutput, Executions.IsAcceptedWithin, Executions.IsRunOver, Executions.IsRunErrorOver, Executions.quote_over, Loads.HoldsOfFile, WithNotes.RunText, Notes.forecast_line, QuoteTexts.is_program_file}
+use Rattle.star_engine.specs.{Queries.{FitsRows, IsPlanOf, IsQueryRunErrorOver, IsQueryRunOver, fact_rows}, declared.fault.EngineFault.EngineFault, declared.executions.RunOutput.RunOutput, Executions.{IsAcceptedWithin, IsRunOver, IsRunErrorOver, quote_over}, Loads.HoldsOfFile, WithNotes.RunText, Notes.forecast_line, QuoteTexts.is_program_file}
 use Rattle.star_world.specs.WorldOf.{world_of}
 
 -- the maximum number of rows of the report of a program over these tables
@@ -18,8 +17,7 @@ most_rows_over database program = most_report_rows (world_of database) program
 pub record IsProgramForecast (database : Database) (most : ℕ) (program : Parts) (text : List ℕ)
     : Type 0 where
   pub accepted : IsAcceptedWithin database most program
-  pub printed : text
-      ≡ forecast_line (quote_over database program) (most_rows_over database program)
+  pub printed : text ≡ forecast_line (quote_over database program) (most_rows_over database program)
 
 -- the same for a query that fits: each row of lineorder is visited once, and the rows are those
 -- that the report of its program can have
@@ -27,8 +25,7 @@ pub record IsQueryForecast (most : ℕ) (database : Database) (query text : List
   pub fitting : FitsRows most database query
   pub p : Plan
   pub meant : IsPlanOf query p
-  pub printed : text
-      ≡ forecast_line (fact_rows database) (most_rows_over database (compiled p))
+  pub printed : text ≡ forecast_line (fact_rows database) (most_rows_over database (compiled p))
 
 abbrev pub IsForecastOfKind : (is_program : Bool) → (visits : ℕ) → Database → (file text : List ℕ)
     → Type 0

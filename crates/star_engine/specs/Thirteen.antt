@@ -1,8 +1,7 @@
 -- The thirteen queries of the Star Schema Benchmark: their names, and their texts in this project's
 -- dialect.
 use Rattle.std.specs.Prelude.{◌++◌, ℕ, List, codes}
-use Rattle.star_engine.specs.declared.thirteen.BenchmarkQuery.{BenchmarkQuery}
-use Rattle.star_engine.specs.declared.thirteen.BenchmarkQuery.TheVariants.{Q11, Q12, Q13, Q21, Q22, Q23, Q31, Q32, Q33, Q34, Q41, Q42, Q43}
+use Rattle.star_engine.specs.declared.thirteen.BenchmarkQuery.{BenchmarkQuery, TheVariants.{Q11, Q12, Q13, Q21, Q22, Q23, Q31, Q32, Q33, Q34, Q41, Q42, Q43}}
 
 unfoldable pub query_name : BenchmarkQuery → List ℕ
 query_name Q11 = codes "Q1.1"

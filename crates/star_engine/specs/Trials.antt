@@ -6,8 +6,7 @@ use Rattle.star_report.specs.Report.{report_text}
 use Rattle.star_trial.specs.{declared.fault.TrialFault.TrialFault, Trials.IsFaultOfEnd}
 use Rattle.star_outcome.specs.Yields.{Yields}
 use Rattle.star_world.specs.WorldOf.{world_of}
-use Rattle.star_engine.specs.Loads.{HoldsOfFile, HoldsOfRows, IsProgramError, IsProgramInputError, IsProgramOf}
-use Rattle.star_engine.specs.{declared.fault.EngineFault.EngineFault, declared.fault.EngineFault.TheVariants.Trial}
+use Rattle.star_engine.specs.{Loads.{HoldsOfFile, HoldsOfRows, IsProgramError, IsProgramInputError, IsProgramOf}, declared.fault.EngineFault.EngineFault, declared.fault.EngineFault.TheVariants.Trial}
 use Rattle.star_trial.specs.declared.fault.TrialFault.TheVariants as trial
 
 -- the printed report of the program that a file spells, run over these tables for at most `visits`

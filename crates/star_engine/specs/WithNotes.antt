@@ -1,8 +1,7 @@
 -- The result of a call that runs a program: its report goes to one sink, a note before it and one
 -- after it to another.
 use Rattle.std.specs.Prelude.{◌≡◌, ◌≤◌, ◌++◌, ◌⊎◌, ℕ, List, Result, Ok, Err, length}
-use Rattle.star_engine.specs.{declared.fault.EngineFault.EngineFault, declared.fault.EngineFault.TheVariants.OutOfMemory, declared.fault.EngineFault.TheVariants.Refused, declared.fault.EngineFault.TheVariants.Write, Answered.Change, Answered.HasGained, Answered.HasGainedPart}
-use Rattle.star_engine.specs.{Answered.IsUntouched}
+use Rattle.star_engine.specs.{declared.fault.EngineFault.EngineFault, declared.fault.EngineFault.TheVariants.{OutOfMemory, Refused, Write}, Answered.{Change, HasGained, HasGainedPart, IsUntouched}}
 
 -- the text of a run: the note of the quote, the report, and the note of the counts
 pub record RunText : Type 0 where

@@ -77,10 +77,9 @@ fn section_of(
     query: BenchmarkQuery,
     limits: Limits,
 ) -> Result<Finding, EngineFault>
-    ensures { MatchResult result
-        (λ found. IsSection limits.visits catalogue.now query found.text.items
-        × (IsTrue found.fits ↔ FitsRows limits.visits catalogue.now (query_text query)))
-        IsMemory }
+    ensures { MatchResult result (λ found.
+        IsSection limits.visits catalogue.now query found.text.items
+        × (IsTrue found.fits ↔ FitsRows limits.visits catalogue.now (query_text query))) IsMemory }
 {
     each_query_has_laws(catalogue);
     let question = question_of(alloc, query)?;
@@ -97,10 +96,8 @@ pub(crate) fn bench_of(
     catalogue: &Catalogue,
     limits: Limits,
 ) -> Result<Finding, EngineFault>
-    ensures { MatchResult result
-        (λ found. IsBenchOver limits.visits catalogue.now found.text.items
-        × (IsTrue found.fits ↔ AllFit limits.visits catalogue.now))
-        IsMemory }
+    ensures { MatchResult result (λ found. IsBenchOver limits.visits catalogue.now found.text.items
+        × (IsTrue found.fits ↔ AllFit limits.visits catalogue.now)) IsMemory }
 {
     let mut text = Vec::new(alloc);
     let mut fits = true;

@@ -3,11 +3,7 @@
 ghost use Rattle.std.specs.Prelude.{◌≡◌, ◌≤◌, ◌^◌, ◌↔◌, ℕ, Bool, List, Err, IfErr, IfOk, IsTrue, MatchResult, OnOk};
 ghost use Rattle.star_schema.specs.Loadable.{database_of};
 ghost use Rattle.star_catalogue.specs.Load.{texts_view};
-ghost use Rattle.star_engine.specs.Answered.{HasWritten, IsBrokenOff, IsRefused, IsUntouched, OrMemory, change};
-ghost use Rattle.star_engine.specs.WithNotes.{HasWrittenRun, IsAnsweredWithNotes, IsRunBrokenOff, IsRunRefused, IsRunUnwritten};
-ghost use Rattle.star_engine.specs.Queries.{IsExplained, IsQueryError, IsQueryQuote, IsQueryRun, IsQueryRunError, IsReportOf};
-ghost use Rattle.star_engine.specs.{Bench.AllFit, Bench.IsBench, Executions.IsFileReport, Executions.IsQuoteOf, Executions.IsRunError, Executions.IsRunOf, Listing.IsListing, Loads.IsLoadError, Questions.Asks, QuoteTexts.IsErrorOfKind, QuoteTexts.IsQuoteError, QuoteTexts.IsQuoteText};
-ghost use Rattle.star_engine.specs.{Trials.IsTrialError, Trials.IsTrialReport, Private.TextSteps.IsQuoteOfTexts, Private.TextSteps.IsRunOfTexts, Private.TextSteps.IsRunErrorOfTexts};
+ghost use Rattle.star_engine.specs.{Answered.{HasWritten, IsBrokenOff, IsRefused, IsUntouched, OrMemory, change}, WithNotes.{HasWrittenRun, IsAnsweredWithNotes, IsRunBrokenOff, IsRunRefused, IsRunUnwritten}, Queries.{IsExplained, IsQueryError, IsQueryQuote, IsQueryRun, IsQueryRunError, IsReportOf}, Bench.{AllFit, IsBench}, Executions.{IsFileReport, IsQuoteOf, IsRunError, IsRunOf}, Listing.IsListing, Loads.IsLoadError, Questions.Asks, QuoteTexts.{IsErrorOfKind, IsQuoteError, IsQuoteText}, Trials.{IsTrialError, IsTrialReport}, Private.TextSteps.{IsQuoteOfTexts, IsRunOfTexts, IsRunErrorOfTexts}};
 
 use crate::engine::Engine;
 use crate::executions::write_text;

@@ -31,8 +31,8 @@ fn take_texts(digest: &mut Sha256, catalogue: &Catalogue, column: ColumnId)
 
 fn take_table(digest: &mut Sha256, catalogue: &Catalogue, table: TableId) {
     digest.update(&catalogue.rows(table).to_le_bytes()[..]);
-    for place in 0..width(table) {
-        let column = column_at(table, place);
+    for index in 0..width(table) {
+        let column = column_at(table, index);
         match kind_of(column) {
             Kind::Number => take_numbers(digest, catalogue, column),
             Kind::Text => take_texts(digest, catalogue, column),

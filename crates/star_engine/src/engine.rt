@@ -4,8 +4,7 @@ ghost use Rattle.std.specs.Prelude.{◌≡◌, ◌≤◌, ◌^◌, ◌↔◌, �
 ghost use Rattle.star_schema.specs.{Database.TableTexts, Loadable.IsLoadable, Loadable.database_of};
 ghost use Rattle.star_catalogue.specs.{Load.texts_view, Pieces.AreRead, Pieces.AreReadSome, Pieces.IsReadNextTo, Pieces.with_lineorder_text};
 ghost use Rattle.star_partial.specs.Contents.{contents_of};
-ghost use Rattle.star_engine.specs.{Answered.IsAnswered, Answered.OrMemory, Answered.change, Bench.AllFit, Bench.IsBenchOver, Listing.IsListingOver, Loads.AreLoadedRows, Loads.AreOfLoadableTexts, Loads.IsLoadError, Loads.loaded_of, Partials.IsPartialOver, Queries.IsQueryError, WithNotes.IsAnsweredWithNotes};
-ghost use Rattle.star_engine.specs.{Questions.Asks, QuoteTexts.IsQuoteOfKindOver, RunTexts.IsForecastErrorOfKind, RunTexts.IsForecastOfKind, RunTexts.IsRunOfKind, RunTexts.run_text_of, Trials.IsBoundedReport, Trials.IsTrialErrorOver};
+ghost use Rattle.star_engine.specs.{Answered.{IsAnswered, OrMemory, change}, Bench.{AllFit, IsBenchOver}, Listing.IsListingOver, Loads.{AreLoadedRows, AreOfLoadableTexts, IsLoadError, loaded_of}, Partials.IsPartialOver, Queries.IsQueryError, WithNotes.IsAnsweredWithNotes, Questions.Asks, QuoteTexts.IsQuoteOfKindOver, RunTexts.{IsForecastErrorOfKind, IsForecastOfKind, IsRunOfKind, run_text_of}, Trials.{IsBoundedReport, IsTrialErrorOver}};
 
 use crate::benchmark::bench_of;
 use crate::executions::{

@@ -1,8 +1,7 @@
 // Programs that are verified and then run, with the text of their runs.
 
 ghost use Rattle.std.specs.Prelude.{◌≡◌, ◌<◌, ◌≤◌, ◌^◌, ℕ, List, IfOk, MatchResult, length, string_bytes};
-ghost use Rattle.star_engine.specs.{Answered.HasGained, Answered.IsWritten, Answered.OrMemory, Answered.change, Executions.IsAcceptedWithin, Executions.IsQuote, Executions.IsProgramRun, Faults.fault_of_refusal, Loads.IsProgramOf, WithNotes.IsAnsweredWithNotes, Private.Steps.AreBothWritten};
-ghost use Rattle.star_engine.specs.{Private.Steps.IsNotVerified, Private.Steps.IsPart, RunTexts.IsProgramForecast, RunTexts.run_text_of, Trials.IsBoundedReport, Trials.IsTrialErrorOver, declared.fault.EngineFault.TheVariants.Write};
+ghost use Rattle.star_engine.specs.{Answered.{HasGained, IsWritten, OrMemory, change}, Executions.{IsAcceptedWithin, IsQuote, IsProgramRun}, Faults.fault_of_refusal, Loads.IsProgramOf, WithNotes.IsAnsweredWithNotes, Private.Steps.{AreBothWritten, IsNotVerified, IsPart}, RunTexts.{IsProgramForecast, run_text_of}, Trials.{IsBoundedReport, IsTrialErrorOver}, declared.fault.EngineFault.TheVariants.Write};
 
 use crate::fault::EngineFault;
 use crate::notes::{forecast_note, program_note, quote_note};
@@ -41,9 +40,8 @@ pub(crate) fn checked<'c>(
     program: Program,
     limits: Limits,
 ) -> Result<Verified<'c>, EngineFault>
-    ensures { MatchResult result
-        (λ verified. (verified.database ≡ catalogue.now) × (verified.program ≡ program)
-        × IsAcceptedWithin catalogue.now limits.visits program)
+    ensures { MatchResult result (λ verified. (verified.database ≡ catalogue.now)
+        × (verified.program ≡ program) × IsAcceptedWithin catalogue.now limits.visits program)
         (OrMemory (IsNotVerified catalogue.now limits.visits program)) }
 {
     admissible_programs_within_the_limit_are_not_refused();

@@ -2,8 +2,7 @@
 
 ghost use Rattle.std.specs.Prelude.{◌≡◌, Some};
 ghost use Rattle.star_common.specs.Memory.{TellsMemory};
-ghost use Rattle.star_engine.specs.Faults.{fault_of_load, fault_of_plan, fault_of_query, fault_of_refusal, fault_of_text, fault_of_trial};
-ghost use Rattle.star_engine.specs.{FaultTexts.engine_fault_text, declared.fault.EngineFault.TheVariants.OutOfMemory, declared.fault.EngineFault.TheVariants.Write};
+ghost use Rattle.star_engine.specs.{Faults.{fault_of_load, fault_of_plan, fault_of_query, fault_of_refusal, fault_of_text, fault_of_trial}, FaultTexts.engine_fault_text, declared.fault.EngineFault.TheVariants.{OutOfMemory, Write}};
 
 use star_catalogue::LoadFault;
 use star_common::WriteFault;

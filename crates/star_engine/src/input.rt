@@ -1,7 +1,6 @@
 // Counted reads of a file, a pipe or a device.
 
-ghost use Rattle.std.specs.Prelude.{◌≡◌, ◌≤◌, ◌+◌, ◌-◌, ◌^◌, true, IfOk, IfErr, OnErr, OnOk, min};
-ghost use Rattle.std.specs.{Io.ReadsAtMost, Io.KnownBytes.ReadConsumes};
+ghost use Rattle.std.specs.{Prelude.{◌≡◌, ◌≤◌, ◌+◌, ◌-◌, ◌^◌, true, IfOk, IfErr, OnErr, OnOk, min}, Io.ReadsAtMost, Io.KnownBytes.ReadConsumes};
 ghost use Rattle.star_engine.specs.Reading.{IsFresh, came_of, has_failed, reader_of, reads_of};
 
 use crate::reading::FileFault;

@@ -1,7 +1,6 @@
 // Reading a table file in pieces, within a bound on its bytes.
 
-ghost use Rattle.std.specs.Prelude.{◌≡◌, ◌≤◌, ◌<◌, ◌+◌, ◌-◌, ◌^◌, ◌⊎◌, ℕ, List, true, Err, IfOk, OnOk, length, min};
-ghost use Rattle.std.specs.Io.KnownBytes.{Consumes, IsAtEnd};
+ghost use Rattle.std.specs.{Prelude.{◌≡◌, ◌≤◌, ◌<◌, ◌+◌, ◌-◌, ◌^◌, ◌⊎◌, ℕ, List, true, Err, IfOk, OnOk, length, min}, Io.KnownBytes.{Consumes, IsAtEnd}};
 ghost use Rattle.star_engine.specs.Reading.{ReadingGoesOn, GoesOnByPart, came_of, has_failed, reader_of, reads_of};
 
 use crate::input::Input;

@@ -1,7 +1,6 @@
 //! Laws of queries and their reports: functions with empty bodies, whose clauses are the laws.
 
-ghost use Rattle.std.specs.Prelude.{◌≡◌, ◌≤◌, ◌<◌, ◌^◌, ◌↔◌, ℕ, List, Some};
-ghost use Rattle.std.specs.{Option.option_map};
+ghost use Rattle.std.specs.{Prelude.{◌≡◌, ◌≤◌, ◌<◌, ◌^◌, ◌↔◌, ℕ, List, Some}, Option.option_map};
 ghost use Rattle.star_schema.specs.{Database.Database, Database.TableTexts, Database.rows_in, Columns.bounds_in};
 ghost use Rattle.star_query.specs.{Derives.Means, Tree.Tree};
 ghost use Rattle.star_plan.specs.{Meaning.Plan, WellNamed.IsWellNamed};
@@ -9,9 +8,7 @@ ghost use Rattle.star_program.specs.{Effects.State, Run.Ended, Run.EndsWith, Run
 ghost use Rattle.star_safety.specs.Admissible.{Refused, TooCostly, first_refusal};
 ghost use Rattle.star_world.specs.WorldOf.{world_of};
 ghost use Rattle.star_compile_laws.specs.{Compiled.compiled, Counts.HasCounted, Judged.IsOverflow, Wide.turn_wide};
-ghost use Rattle.star_engine.specs.Queries.{FitsRows, IsPlanOf, IsQueryError, IsQueryRun, IsQueryRunError, IsQueryRunErrorOver, IsQueryRunOver, fact_rows};
-ghost use Rattle.star_engine.specs.{Executions.IsAcceptedWithin, Executions.quote_over, declared.fault.EngineFault.EngineFault, declared.thirteen.BenchmarkQuery.BenchmarkQuery, Loads.AreLoadedRows, WithNotes.RunText, QueryRuns.HasReported, QueryRuns.PrintsTheReport};
-ghost use Rattle.star_engine.specs.{Private.QuerySteps.HasProgramLaws, Thirteen.query_text};
+ghost use Rattle.star_engine.specs.{Queries.{FitsRows, IsPlanOf, IsQueryError, IsQueryRun, IsQueryRunError, IsQueryRunErrorOver, IsQueryRunOver, fact_rows}, Executions.{IsAcceptedWithin, quote_over}, declared.fault.EngineFault.EngineFault, declared.thirteen.BenchmarkQuery.BenchmarkQuery, Loads.AreLoadedRows, WithNotes.RunText, QueryRuns.{HasReported, PrintsTheReport}, Private.QuerySteps.HasProgramLaws, Thirteen.query_text};
 
 use star_catalogue::Catalogue;
 use star_compile_laws::acceptance::compiled_programs_are_accepted_where_they_fit_the_tables;
@@ -35,16 +32,13 @@ pub fn queries_that_fit_are_answered()
         → AreLoadedRows database → IsPlanOf query p
         → FitsRows most database query ↔ IsAcceptedWithin database most (compiled p) }
     ensures answered { (most : ℕ) (database : Database) (query : List ℕ) (p : Plan)
-        → AreLoadedRows database → IsPlanOf query p
-        → FitsRows most database query → most ≤ 10 ^ 15
+        → AreLoadedRows database → IsPlanOf query p → FitsRows most database query → most ≤ 10 ^ 15
         → EndsWith (run_of (world_of database) (compiled p)) (HasReported database query p) }
-    ensures costly { (most : ℕ) (database : Database) (p : Plan)
-        → most < fact_rows database
+    ensures costly { (most : ℕ) (database : Database) (p : Plan) → most < fact_rows database
         → first_refusal (world_of database) most (compiled p)
         ≡ Some (TooCostly (fact_rows database)) }
-    ensures wide { (most : ℕ) (database : Database) (query : List ℕ) (p : Plan)
-        → IsPlanOf query p → fact_rows database ≤ most
-        → ¬ FitsRows most database query
+    ensures wide { (most : ℕ) (database : Database) (query : List ℕ) (p : Plan) → IsPlanOf query p
+        → fact_rows database ≤ most → ¬ FitsRows most database query
         → IsOverflow (first_refusal (world_of database) most (compiled p)) }
     ensures first { (most : ℕ) (database : Database) (query : List ℕ) (p : Plan)
         → IsPlanOf query p → fact_rows database ≤ most
@@ -70,8 +64,7 @@ pub fn programs_of_queries_report_them()
     ensures spelled { (query : List ℕ) (p : Plan) → IsPlanOf query p → IsSpellable (compiled p) }
     ensures printed { (database : Database) (query : List ℕ) (p : Plan) (s : State)
         → AreLoadedRows database → IsPlanOf query p
-        → run_of (world_of database) (compiled p) ≡ Ended s
-        → PrintsTheReport database query p s }
+        → run_of (world_of database) (compiled p) ≡ Ended s → PrintsTheReport database query p s }
     ensures counted { (database : Database) (query : List ℕ) (p : Plan) (s : State)
         → AreLoadedRows database → (meant : IsPlanOf query p)
         → run_of (world_of database) (compiled p) ≡ Ended s
@@ -107,9 +100,8 @@ pub fn the_thirteen_are_queries()
 /// States that no error is due if a report of a query and its notes are due, over the same rows or
 /// texts, under the same limits.
 pub fn reported_queries_have_no_fault()
-    ensures over_rows { (visits : ℕ) (database : Database) (query : List ℕ)
-        (run : RunText) (fault : EngineFault)
-        → IsQueryRunOver visits database query run
+    ensures over_rows { (visits : ℕ) (database : Database) (query : List ℕ) (run : RunText)
+        (fault : EngineFault) → IsQueryRunOver visits database query run
         → ¬ IsQueryRunErrorOver visits database query fault }
     ensures of_texts { (rows visits : ℕ) (texts : TableTexts) (query : List ℕ)
         (run : RunText) (fault : EngineFault) → IsQueryRun rows visits texts query run

@@ -1,7 +1,6 @@
 // Reading a whole file, pipe or device within a bound on its bytes.
 
-ghost use Rattle.std.specs.Prelude.{◌≡◌, ◌≤◌, ◌<◌, ◌+◌, ◌++◌, ◌⊎◌, ℕ, List, [], true, Err, IfOk, IfSome, OnOk, length, vec_len};
-ghost use Rattle.std.specs.{Io.KnownBytes.Consumes, Io.KnownBytes.IsAtEnd};
+ghost use Rattle.std.specs.{Prelude.{◌≡◌, ◌≤◌, ◌<◌, ◌+◌, ◌++◌, ◌⊎◌, ℕ, List, [], true, Err, IfOk, IfSome, OnOk, length, vec_len}, Io.KnownBytes.{Consumes, IsAtEnd}};
 ghost use Rattle.star_common.specs.Memory.{TellsMemory};
 ghost use Rattle.star_engine.specs.{declared.reading.FileFault.TheVariants.Memory, Reading.came_of, Reading.has_failed, Reading.reader_of, Reading.reads_of};
 

@@ -1,16 +1,10 @@
 -- What queries of all rows answer over the sample, from their texts and the bytes of five files to
 -- their printed reports.
-use Rattle.std.proofs.Common.{◌≡◌, ◌∙◌, ℕ, zero, suc, Bool, true, false, List, [], ◌∷◌, Option, Some, None, ap, arith, inl, inr, length, refl, subst, sym}
-use Rattle.std.specs.{Prelude.Contains, Prelude.codes, Prelude.is_none, Prelude.map, Fmt.digits, List.AllByRecursion, List.Sorted.IsStrictlySortedBy, declared.cmp.Ordering.Ordering}
-use Rattle.star_common.specs.First.{first_answer}
-use Rattle.star_common.proofs.Tables.{each_row}
-use Rattle.star_schema.specs.Groups.{AreGroups, Entry, GroupRow, IsGroup, IsMasked, members, totals_of}
-use Rattle.star_schema.specs.{declared.group.Aggregate.Aggregate, declared.group.Shape.Shape, declared.group.Shape.TheVariants.Cube, declared.group.Shape.TheVariants.Plain, declared.group.Shape.TheVariants.Rollup, Database.Database, Database.rows_in, Loadable.database_of, Order.value_cmp}
-use Rattle.star_schema.specs.{Records.pieces, Schema.column_of, Schema.columns_of, Schema.place_of, Schema.table_name, Tables.Value}
-use Rattle.star_query.specs.{Symbols.spelling, Private.Cut.cut_from, Private.Cut.reserved, Private.Cut.reserved_words, Tree.Name, Tree.Tree}
-use Rattle.star_query.proofs.Told.{Says, Told, fault, holds, means, nothing, told}
-use Rattle.star_plan.specs.{declared.fault.PlanFault.PlanFault, Faults.plan_fault, Meaning.Joined, Meaning.aggregate_of, Names.column_called, Names.has_name, Names.table_called, Naming.function_word, Naming.has_text}
-use Rattle.star_plan.proofs.Conditions.{well_named}
+use Rattle.std.{proofs.Common.{◌≡◌, ◌∙◌, ℕ, zero, suc, Bool, true, false, List, [], ◌∷◌, Option, Some, None, ap, arith, inl, inr, length, refl, subst, sym}, specs.Prelude.{Contains, codes, is_none, map}, specs.Fmt.digits, specs.List.AllByRecursion, specs.List.Sorted.IsStrictlySortedBy, specs.declared.cmp.Ordering.Ordering}
+use Rattle.star_common.{specs.First.first_answer, proofs.Tables.each_row}
+use Rattle.star_schema.specs.{Groups.{AreGroups, Entry, GroupRow, IsGroup, IsMasked, members, totals_of}, declared.group.Aggregate.Aggregate, declared.group.Shape.Shape, declared.group.Shape.TheVariants.{Cube, Plain, Rollup}, Database.{Database, rows_in}, Loadable.database_of, Order.value_cmp, Records.pieces, Schema.{column_of, columns_of, position_of, table_name}, Tables.Value}
+use Rattle.star_query.{specs.Symbols.spelling, specs.Private.Cut.{cut_from, reserved, reserved_words}, specs.Tree.{Name, Tree}, proofs.Told.{Says, Told, fault, holds, means, nothing, told}}
+use Rattle.star_plan.{specs.declared.fault.PlanFault.PlanFault, specs.Faults.plan_fault, specs.Meaning.{Joined, aggregate_of}, specs.Names.{column_called, has_name, table_called}, specs.Naming.{function_word, has_text}, proofs.Conditions.well_named}
 use Rattle.star_program.specs.RowCells.{cell_of}
 use Rattle.star_report.specs.Report.{cell_text, line_text, report_text}
 use Rattle.star_query_meaning.specs.{Reports.IsReport, Rows.measures_of, Rows.query_entry, Rows.selected, Rows.value_named, Shows.item_columns, Shows.item_names}
@@ -160,7 +154,8 @@ rows = (
     ∷ []
 
 reports : AllByRecursion (Report five) rows
-unfolding cut_from reserved reserved_words spelling column_of columns_of place_of pieces table_name
+unfolding cut_from reserved reserved_words spelling column_of columns_of position_of pieces
+    table_name
     column_called table_called first_answer has_name has_text function_word digits report_text
     line_text cell_text
 reports = each_row (HasReport five) (λ query. report_of five (told query)) (reports_hold five) rows
@@ -169,7 +164,7 @@ reports = each_row (HasReport five) (λ query. report_of five (told query)) (rep
 -- ---- the same from bytes to bytes: the sample's five files, lineorder's in two parts
 
 rows_of_bytes : database_of sample_texts ≡ five
-unfolding column_of columns_of place_of pieces
+unfolding column_of columns_of position_of pieces
 rows_of_bytes = refl
 
 reports_of_bytes : AllByRecursion (Report (database_of sample_texts)) rows

@@ -1,7 +1,6 @@
--- What each command asks of the engine, what is printed of a fault or a failure and with which status,
--- and what sessions and reports of files print: each type is the one on the right.
-use Rattle.std.proofs.Common.{◌≡◌, ◌⊎◌, ◌≤◌, ◌&&◌, ◌↔◌, ◌++◌, ℕ, Bool, true, false, List, [], ◌∷◌, Option, Some, None, Result, Ok, Err, arith, inl, inr, refl}
-use Rattle.std.specs.{Prelude.decimal, Prelude.⊤, Prelude.IfOk, Prelude.IsTrue, Prelude.codes, Borrow.Bor}
+-- What each command asks of the engine, what is printed of a fault or a failure and with which
+-- status, and what sessions and reports of files print: each type is the one on the right.
+use Rattle.std.{proofs.Common.{◌≡◌, ◌⊎◌, ◌≤◌, ◌&&◌, ◌↔◌, ◌++◌, ℕ, Bool, true, false, List, [], ◌∷◌, Option, Some, None, Result, Ok, Err, arith, inl, inr, refl}, specs.Prelude.{decimal, ⊤, IfOk, IsTrue, codes}, specs.Borrow.Bor}
 use Rattle.star_common.proofs.Tables.{Gives}
 use Rattle.star_schema.specs.{declared.limits.Limits.Limits, declared.table.TableId.TheVariants.Customer, declared.table.TableId.TheVariants.Lineorder, Database.TableTexts, Loadable.IsLoadable, Loadable.database_of, Most.most_rows, Most.most_visits}
 use Rattle.star_plan.specs.declared.fault.PlanFault.TheVariants.{JoinMissing}
@@ -12,18 +11,9 @@ use Rattle.star_trial.specs.declared.fault.TrialFault.TheVariants.{Limit}
 use Rattle.star_statements.specs.declared.questions.Question.TheVariants.{Explain as Explained, Nothing, Query as Asked, Quote as Quoted, TooLong}
 use Rattle.star_statements.specs.{Blanks.without_blanks, Questions.asked_by_text, Sources.IsPastCounting, Statements.ends_statement, Statements.joined_to_first, Statements.statement_lines, Statements.statements_in, declared.sources.ReadFault.TheVariants.Failed}
 use Rattle.star_statements.specs.{declared.sources.ReadFault.TheVariants.OutOfMemory as NoMemory}
-use Rattle.star_engine.specs.declared.fault.EngineFault.TheVariants.{Load, OutOfMemory, Plan, Program, Query, Refused, Trial, Write}
-use Rattle.star_engine.specs.Queries.{IsExplained, IsQueryError, IsQueryQuote, IsQueryQuoteOver, IsQueryRun, IsQueryRunError, IsQueryRunErrorOver, IsQueryRunOver}
-use Rattle.star_engine.specs.{declared.fault.EngineFault.EngineFault, Answered.Change, Answered.HasGained, Answered.HasGainedPart, Answered.IsAnswered, Answered.OrMemory, Bench.AllFit, Bench.IsBench, Executions.IsQuoteOf, Executions.IsRunOf, Executions.IsRunError, Loads.IsLoadError, Loads.Loaded, Loads.loaded_of}
-use Rattle.star_engine.specs.{QuoteTexts.IsQuoteErrorOver, QuoteTexts.IsQuoteTextOver, RunTexts.IsForecastOver, WithNotes.IsAnsweredWithNotes}
-use Rattle.star_service.specs.Reports.{AreAllJobsForecast, AreAllJobsRun, AreJobsForecast, AreJobsRun, IsForecastLine, IsJobForecast, IsJobRun, IsRefusedLine, IsReportStored, IsReportUnstored, named_line}
-use Rattle.star_service.specs.Sessions.{AreAllAnswered, AreRounds, AreStatementsRun, IsAnswerTo, IsLineEnded, IsReportEnded, IsReported, IsRound, IsSession, IsSessionEnded, IsStatementUnread, IsStepEnded, IsUnwritten, may_go_on, parting_of}
-use Rattle.star_service.specs.ReportSinks.{Adds, HasFailedAt, HasStoredNone, IsStoreError, StoredReport, HaveSameReports, SinkChange, sink_change}
-use Rattle.star_service.specs.{Lines.IsFaultPrinted, Lines.IsTextPrinted, Lines.fault_line, Lines.fault_status, declared.reports.Halt.Halt, declared.reports.ReportJob.ReportJob, declared.sessions.Stop.TheVariants.Unread, declared.sessions.Stop.TheVariants.Unwritten}
-use Rattle.star_cli.specs.Answers.{IsBenched, IsEnded, IsExecuted, IsExplanation, IsGivenOf, IsListed, IsListedAndBenched, IsNoneRefused, IsOfTables, IsQueried, IsQuoted, IsTried, none_refused}
-use Rattle.star_cli.specs.Failures.{AreReportsEnded, IsFailurePrinted, IsPrintedOn, IsTextOf, failure_of_halt, status_of}
-use Rattle.star_cli.specs.FolderLoads.{AreTablesUnread, IsFolderRefused, IsFolderUnread, IsLoadedFrom, IsThere}
-use Rattle.star_cli.specs.Stores.{AreTablesIn, ArePartsFrom, IsAt, IsFile, IsGivenFile, IsTableFile, IsTextIn, IsWhole, AreParts, Known, part_name, path_in, table_name}
+use Rattle.star_engine.specs.{declared.fault.EngineFault.TheVariants.{Load, OutOfMemory, Plan, Program, Query, Refused, Trial, Write}, Queries.{IsExplained, IsQueryError, IsQueryQuote, IsQueryQuoteOver, IsQueryRun, IsQueryRunError, IsQueryRunErrorOver, IsQueryRunOver}, declared.fault.EngineFault.EngineFault, Answered.{Change, HasGained, HasGainedPart, IsAnswered, OrMemory}, Bench.{AllFit, IsBench}, Executions.{IsQuoteOf, IsRunOf, IsRunError}, Loads.{IsLoadError, Loaded, loaded_of}, QuoteTexts.{IsQuoteErrorOver, IsQuoteTextOver}, RunTexts.IsForecastOver, WithNotes.IsAnsweredWithNotes}
+use Rattle.star_service.specs.{Reports.{AreAllJobsForecast, AreAllJobsRun, AreJobsForecast, AreJobsRun, IsForecastLine, IsJobForecast, IsJobRun, IsRefusedLine, IsReportStored, IsReportUnstored, named_line}, Sessions.{AreAllAnswered, AreRounds, AreStatementsRun, IsAnswerTo, IsLineEnded, IsReportEnded, IsReported, IsRound, IsSession, IsSessionEnded, IsStatementUnread, IsStepEnded, IsUnwritten, may_go_on, parting_of}, ReportSinks.{Adds, HasFailedAt, HasStoredNone, IsStoreError, StoredReport, HaveSameReports, SinkChange, sink_change}, Lines.{IsFaultPrinted, IsTextPrinted, fault_line, fault_status}, declared.reports.Halt.Halt, declared.reports.ReportJob.ReportJob, declared.sessions.Stop.TheVariants.{Unread, Unwritten}}
+use Rattle.star_cli.specs.{Answers.{IsBenched, IsEnded, IsExecuted, IsExplanation, IsGivenOf, IsListed, IsListedAndBenched, IsNoneRefused, IsOfTables, IsQueried, IsQuoted, IsTried, none_refused}, Failures.{AreReportsEnded, IsFailurePrinted, IsPrintedOn, IsTextOf, failure_of_halt, status_of}, FolderLoads.{AreTablesUnread, IsFolderRefused, IsFolderUnread, IsLoadedFrom, IsThere}, Stores.{AreTablesIn, ArePartsFrom, IsAt, IsFile, IsGivenFile, IsTableFile, IsTextIn, IsWhole, AreParts, Known, part_name, path_in, table_name}}
 use Rattle.star_examples.proofs.EngineAnswers.{Answer, Sink, grown, of_load, report, untouched, well}
 use Rattle.star_query.specs.declared.fault.QueryFault.TheVariants as parsing
 use Rattle.star_words.specs.declared.request.Task.TheVariants as task
@@ -32,10 +22,9 @@ use Rattle.star_service.specs.declared.report_sink.ReportSinkFault.TheVariants a
 
 -- ---- statuses of faults
 
-statuses : Gives fault_status (
-    (Refused (TooCostly 10), 1) ∷ (Trial Limit, 1) ∷ (Load (DuplicateKey Lineorder 5), 3)
-    ∷ (Query (parsing.Unexpected 20), 4) ∷ (Plan (JoinMissing 32), 4) ∷ (Program (BadLine 4), 5)
-    ∷ (Write 10, 6) ∷ (OutOfMemory, 7) ∷ [])
+statuses : Gives fault_status ((Refused (TooCostly 10), 1) ∷ (Trial Limit, 1)
+    ∷ (Load (DuplicateKey Lineorder 5), 3) ∷ (Query (parsing.Unexpected 20), 4)
+    ∷ (Plan (JoinMissing 32), 4) ∷ (Program (BadLine 4), 5) ∷ (Write 10, 6) ∷ (OutOfMemory, 7) ∷ [])
     × Gives may_go_on ((Write 3, false) ∷ (OutOfMemory, true) ∷ (of_load, true) ∷ [])
     × Gives none_refused ((Ok tt, Ok true) ∷ (Err OutOfMemory, Err OutOfMemory)
     ∷ (Err (Write 3), Err (Write 3)) ∷ [])

@@ -1,7 +1,6 @@
--- What a call of the engine leaves in its sinks, clause by clause, over sinks whose bytes are known;
--- and why it answers a fault: each type is the one on the right.
-use Rattle.std.proofs.Common.{◌≡◌, ◌<◌, ◌≤◌, ◌⊎◌, ◌++◌, ◌+◌, ℕ, Bool, true, false, List, [], ◌∷◌, Some, Result, Ok, Err, arith, refl, sym, true≢false}
-use Rattle.std.specs.{Prelude.codes, Fmt.digits, Option.option_map}
+-- What a call of the engine leaves in its sinks, clause by clause, over sinks whose bytes are
+-- known; and why it answers a fault: each type is the one on the right.
+use Rattle.std.{proofs.Common.{◌≡◌, ◌<◌, ◌≤◌, ◌⊎◌, ◌++◌, ◌+◌, ℕ, Bool, true, false, List, [], ◌∷◌, Some, Result, Ok, Err, arith, refl, sym, true≢false}, specs.Prelude.codes, specs.Fmt.digits, specs.Option.option_map}
 use Rattle.star_common.proofs.Tables.{Gives}
 use Rattle.star_schema.specs.{declared.table.TableId.TheVariants.Lineorder, Columns.bounds_in, Database.Database, Database.TableTexts, Database.rows_in}
 use Rattle.star_catalogue.specs.{declared.fault.LoadFault.LoadFault, declared.fault.LoadFault.TheVariants.DuplicateKey}
@@ -13,14 +12,7 @@ use Rattle.star_verify.specs.{declared.refusal.Refusal.Refusal, declared.refusal
 use Rattle.star_query_meaning.specs.Reports.{IsReport}
 use Rattle.star_compile_laws.specs.{Judged.IsOverflow, Wide.turn_wide}
 use Rattle.star_engine.specs.declared.fault.EngineFault.TheVariants.{OutOfMemory, Load, Plan as Names, Program, Query, Refused, Write}
-use Rattle.star_engine.specs.Answered.{Change, HasGained, HasGainedPart, HasWritten, IsAnswered, IsBrokenOff, IsRefused, IsWritten, OrMemory, change}
-use Rattle.star_engine.specs.Executions.{IsAcceptedWithin, IsProgramRun, IsQuoteOver, IsRunErrorOver, IsRunOver, quote_over}
-use Rattle.star_engine.specs.Loads.{HoldsOfFile, IsLoadError, IsLoadFault, IsProgram, IsProgramError, IsProgramInputError, IsProgramOf}
-use Rattle.star_engine.specs.WithNotes.{HasGainedQuote, HasWrittenRun, IsAnsweredWithNotes, IsRunBrokenOff, IsRunRefused, IsRunUnwritten, RunText}
-use Rattle.star_engine.specs.Queries.{FitsRows, IsPlanFault, IsQuery, IsQueryError, IsQueryFault, IsQueryInputError, IsQueryQuoteOver, IsQueryRefusal, IsQueryRunErrorOver, IsQueryRunOver, fact_rows}
-use Rattle.star_engine.specs.RunTexts.{IsFileRunOver, IsForecastErrorOver, IsForecastOver, IsProgramForecast, IsQueryForecast}
-use Rattle.star_engine.specs.{declared.fault.EngineFault.EngineFault, declared.input.Input.Input, declared.thirteen.BenchmarkQuery.BenchmarkQuery, declared.thirteen.BenchmarkQuery.TheVariants.Q11, Bench.AreSections, Bench.IsFinding, Bench.IsSection, Bench.named_quote, Bench.refusal_line, Notes.counts_line, Notes.quote_line, Thirteen.query_name, Questions.IsProgramOfKind, Questions.IsProgramOfQuery}
-use Rattle.star_engine.specs.{QuoteTexts.IsQuoteError, QuoteTexts.IsQuoteErrorOver, QuoteTexts.IsQuoteTextOver, QuoteTexts.is_program_file, Reading.IsFresh, Reading.came_of, Reading.has_failed, Reading.reads_of}
+use Rattle.star_engine.specs.{Answered.{Change, HasGained, HasGainedPart, HasWritten, IsAnswered, IsBrokenOff, IsRefused, IsWritten, OrMemory, change}, Executions.{IsAcceptedWithin, IsProgramRun, IsQuoteOver, IsRunErrorOver, IsRunOver, quote_over}, Loads.{HoldsOfFile, IsLoadError, IsLoadFault, IsProgram, IsProgramError, IsProgramInputError, IsProgramOf}, WithNotes.{HasGainedQuote, HasWrittenRun, IsAnsweredWithNotes, IsRunBrokenOff, IsRunRefused, IsRunUnwritten, RunText}, Queries.{FitsRows, IsPlanFault, IsQuery, IsQueryError, IsQueryFault, IsQueryInputError, IsQueryQuoteOver, IsQueryRefusal, IsQueryRunErrorOver, IsQueryRunOver, fact_rows}, RunTexts.{IsFileRunOver, IsForecastErrorOver, IsForecastOver, IsProgramForecast, IsQueryForecast}, declared.fault.EngineFault.EngineFault, declared.input.Input.Input, declared.thirteen.BenchmarkQuery.BenchmarkQuery, declared.thirteen.BenchmarkQuery.TheVariants.Q11, Bench.{AreSections, IsFinding, IsSection, named_quote, refusal_line}, Notes.{counts_line, quote_line}, Thirteen.query_name, Questions.{IsProgramOfKind, IsProgramOfQuery}, QuoteTexts.{IsQuoteError, IsQuoteErrorOver, IsQuoteTextOver, is_program_file}, Reading.{IsFresh, came_of, has_failed, reads_of}}
 
 -- ---- sinks: the bytes, and whether a write has failed
 
@@ -63,9 +55,8 @@ module _ {S N A : Type 0} (out : Change S) (notes : Change N) (IsText : List ℕ
     (refusal : Refusal) (text : List ℕ) where
   written : (IsWritten out text well ≡ HasGained out text)
       × (IsWritten out text (Err (Write sent)) ≡ HasGainedPart out text sent)
-      × (IsWritten out text (Err OutOfMemory) ≡ ⊥)
-      × (OrMemory Due OutOfMemory ≡ Unit {0}) × (OrMemory Due (Write sent) ≡ ⊥)
-      × (OrMemory Due of_load ≡ Due of_load)
+      × (IsWritten out text (Err OutOfMemory) ≡ ⊥) × (OrMemory Due OutOfMemory ≡ Unit {0})
+      × (OrMemory Due (Write sent) ≡ ⊥) × (OrMemory Due of_load ≡ Due of_load)
   written = (refl, refl, refl, refl, refl, refl)
 
   -- the same, clause by clause

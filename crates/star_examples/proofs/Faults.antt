@@ -1,14 +1,9 @@
 -- Which fault of a query's text comes first, and which of its names: the rows that no case shows.
-use Rattle.std.proofs.Common.{◌≡◌, ◌<◌, ℕ, zero, suc, List, [], ◌∷◌, ◌++◌, Option, Some, None, arith, length, refl}
-use Rattle.std.specs.{Prelude.codes, Prelude.replicate, Fmt.digits, List.AllByRecursion}
-use Rattle.star_common.specs.First.{first_answer}
-use Rattle.star_common.proofs.Tables.{each_row}
+use Rattle.std.{proofs.Common.{◌≡◌, ◌<◌, ℕ, zero, suc, List, [], ◌∷◌, ◌++◌, Option, Some, None, arith, length, refl}, specs.Prelude.{codes, replicate}, specs.Fmt.digits, specs.List.AllByRecursion}
+use Rattle.star_common.{specs.First.first_answer, proofs.Tables.each_row}
 use Rattle.star_schema.specs.Schema.{column_of, table_name}
-use Rattle.star_query.specs.declared.fault.QueryFault.TheVariants.{TooLong, BadCharacter, BadNumber, Unexpected, TooDeep, TooMany}
-use Rattle.star_query.specs.{declared.fault.QueryFault.QueryFault, Private.Cut.cut_from, Private.Cut.reserved, Private.Cut.reserved_words, Derives.IsFirstQueryFault, Derives.Means, Symbols.spelling, Tree.Tree}
-use Rattle.star_query.proofs.Told.{Says, Told, fault, holds, means, nothing, told}
-use Rattle.star_plan.specs.declared.fault.PlanFault.TheVariants.{UnknownName, TableNotNamed, JoinTwice, NotAKeyPair, WrongKind, NotGrouped, UnknownOrderKey, DuplicateAlias}
-use Rattle.star_plan.specs.{declared.fault.PlanFault.PlanFault, Faults.plan_fault, Names.column_called, Names.has_name, Names.table_called, Naming.function_word, Naming.has_text}
+use Rattle.star_query.{specs.declared.fault.QueryFault.TheVariants.{TooLong, BadCharacter, BadNumber, Unexpected, TooDeep, TooMany}, specs.declared.fault.QueryFault.QueryFault, specs.Private.Cut.{cut_from, reserved, reserved_words}, specs.Derives.{IsFirstQueryFault, Means}, specs.Symbols.spelling, specs.Tree.Tree, proofs.Told.{Says, Told, fault, holds, means, nothing, told}}
+use Rattle.star_plan.specs.{declared.fault.PlanFault.TheVariants.{UnknownName, TableNotNamed, JoinTwice, NotAKeyPair, WrongKind, NotGrouped, UnknownOrderKey, DuplicateAlias}, declared.fault.PlanFault.PlanFault, Faults.plan_fault, Names.{column_called, has_name, table_called}, Naming.{function_word, has_text}}
 
 -- ---- what is computed of a text holds of it
 
@@ -62,7 +57,7 @@ where_t = codes "select count(*) from t where "
 
 -- a token that no query goes on with, too many nestings, too many of something, or no fault
 abbrev at : ℕ → Option (Option QueryFault)
-at place = Some (Some (Unexpected place))
+at index = Some (Some (Unexpected index))
 
 abbrev deep : Option (Option QueryFault)
 deep = Some (Some TooDeep)
@@ -101,7 +96,7 @@ abbrev dated : List ℕ
 dated = codes "select count(*) from lineorder, date where "
 
 abbrev of_name : (ℕ → PlanFault) → ℕ → Option (Option PlanFault)
-of_name which place = Some (Some (which place))
+of_name which index = Some (Some (which index))
 
 abbrev names : List (List ℕ × Option (Option PlanFault))
 names =

@@ -1,15 +1,10 @@
 -- What is wrong with the texts of tables: of a cell, a record, a text, keys and foreign keys, and
 -- which of it comes first; and columns as they were read.
-use Rattle.std.proofs.Common.{◌≡◌, ◌++◌, ℕ, List, [], ◌∷◌, Some, None, refl}
-use Rattle.std.specs.Prelude.{codes, map, pos, replicate}
-use Rattle.star_common.specs.First.{first_answer}
-use Rattle.star_common.proofs.Tables.{Gives, Gives2}
-use Rattle.star_schema.specs.{declared.table.TableId.TheVariants.Date, declared.table.TableId.TheVariants.Supplier, declared.table.TableId.TheVariants.Part, declared.table.TableId.TheVariants.Lineorder, declared.table.TheConstants.TABLES, declared.column.ColumnId.TheVariants.LoOrderdate}
-use Rattle.star_schema.specs.{declared.column.ColumnId.TheVariants.LoPartkey, declared.column.ColumnId.TheVariants.LoTax, Loadable.foreign_keys, Loadable.keys_of, Records.pieces, Schema.column_of, Schema.columns_of, Schema.place_of, Tables.Number, Tables.Text}
-use Rattle.star_reader.specs.Faults.{part_fault, parts_fault, record_fault, records_fault, text_fault}
-use Rattle.star_reader.specs.{declared.column.RawColumn.RawColumn, declared.column.RawColumn.TheVariants.Numbers, declared.column.RawColumn.TheVariants.Texts, Columns.first_rows, Columns.raw_kind, Columns.row_of_columns, Columns.values}
-use Rattle.star_catalogue.specs.declared.fault.LoadFault.TheVariants.{AbsentKey, BadByte, BadNumber, ByteOrderMark, CellTooLong, FieldCount, OutOfMemory, TooManyRows}
-use Rattle.star_catalogue.specs.Load.{absent_fault, foreign_key_fault, fault_of_read, first_repeat, load_fault, same_key, tables_fault, texts_view}
+use Rattle.std.{proofs.Common.{◌≡◌, ◌++◌, ℕ, List, [], ◌∷◌, Some, None, refl}, specs.Prelude.{codes, map, pos, replicate}}
+use Rattle.star_common.{specs.First.first_answer, proofs.Tables.{Gives, Gives2}}
+use Rattle.star_schema.specs.{declared.table.TableId.TheVariants.{Date, Supplier, Part, Lineorder}, declared.table.TheConstants.TABLES, declared.column.ColumnId.TheVariants.{LoOrderdate, LoPartkey, LoTax}, Loadable.{foreign_keys, keys_of}, Records.pieces, Schema.{column_of, columns_of, position_of}, Tables.{Number, Text}}
+use Rattle.star_reader.specs.{Faults.{part_fault, parts_fault, record_fault, records_fault, text_fault}, declared.column.RawColumn.RawColumn, declared.column.RawColumn.TheVariants.{Numbers, Texts}, Columns.{first_rows, raw_kind, row_of_columns, values}}
+use Rattle.star_catalogue.specs.{declared.fault.LoadFault.TheVariants.{AbsentKey, BadByte, BadNumber, ByteOrderMark, CellTooLong, FieldCount, OutOfMemory, TooManyRows}, Load.{absent_fault, foreign_key_fault, fault_of_read, first_repeat, load_fault, same_key, tables_fault, texts_view}}
 use Rattle.star_examples.proofs.Sample.{five, sample_texts}
 use Rattle.star_schema.specs.declared.column.Kind.TheVariants as kind
 use Rattle.star_reader.specs.declared.fault.ReadFault.TheVariants as read
@@ -61,7 +56,7 @@ texts : Gives2 (λ most records. records_fault Supplier most 1 records) (
     ∷ (marked [], Some read.ByteOrderMark) ∷ (239 ∷ 187 ∷ [], Some (read.FieldCount 1))
     ∷ (codes "x", Some (read.FieldCount 1)) ∷ (supplier ++ codes "\nx", Some read.TooManyRows)
     ∷ [])
-unfolding part_fault parts_fault record_fault first_answer column_of columns_of place_of pieces
+unfolding part_fault parts_fault record_fault first_answer column_of columns_of position_of pieces
 texts = (refl, refl)
 
 -- ---- keys: the first record whose key an earlier one has; of lineorder's keys both numbers count
@@ -89,16 +84,16 @@ foreign : Gives (λ c. foreign_key_fault five 4 [] c)
     × Gives absent_fault (
     (five, None) ∷ (record five { date = [] }, Some (AbsentKey 1 LoOrderdate))
     ∷ (record five { part = []; date = [] }, Some (AbsentKey 1 LoPartkey)) ∷ [])
-unfolding absent_fault keys_of foreign_keys first_answer column_of columns_of place_of pieces
+unfolding absent_fault keys_of foreign_keys first_answer column_of columns_of position_of pieces
 foreign = (refl, refl)
 
 loads : Gives (λ most. load_fault most sample_texts) (
     (5, None) ∷ (4, Some (TooManyRows Lineorder)) ∷ (2, Some (TooManyRows Date)) ∷ [])
 unfolding tables_fault absent_fault keys_of foreign_keys first_repeat part_fault parts_fault
-    record_fault first_answer column_of columns_of place_of pieces
+    record_fault first_answer column_of columns_of position_of pieces
 loads = refl
 
--- ---- columns as they were read: two numbers and two texts; a place that a column hasn't is 0
+-- ---- columns as they were read: two numbers and two texts; a position that a column hasn't is 0
 
 abbrev two : List RawColumn
 two = Numbers (pos 7 ∷ pos 8 ∷ []) ∷ Texts (codes "a" ∷ codes "b" ∷ []) ∷ []

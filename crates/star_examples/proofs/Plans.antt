@@ -1,19 +1,11 @@
 -- What every plan keeps, and when it fits the sample.
-use Rattle.std.proofs.Common.{◌≡◌, ◌≤◌, ◌^◌, ℕ, ℤ, Bool, true, false, List, [], ◌∷◌, Some, None, length, pos, refl}
-use Rattle.std.specs.Prelude.{IsTrue, codes, neg_ℤ, replicate, sum_by}
-use Rattle.std.specs.{List.list_all}
+use Rattle.std.{proofs.Common.{◌≡◌, ◌≤◌, ◌^◌, ℕ, ℤ, Bool, true, false, List, [], ◌∷◌, Some, None, length, pos, refl}, specs.Prelude.{IsTrue, codes, neg_ℤ, replicate, sum_by}, specs.List.list_all}
 use Rattle.star_common.proofs.Tables.{Gives, Gives2}
-use Rattle.star_schema.specs.declared.column.ColumnId.TheVariants.{CCustkey, DDatekey, DYear, LoDiscount, LoExtendedprice, LoLinenumber, LoOrderdate, LoOrderkey, LoQuantity, LoRevenue, LoShipmode, LoSupplycost, LoTax, PBrand1, PSize}
-use Rattle.star_schema.specs.{declared.table.Key.TheVariants.Two, declared.table.TableId.TheVariants.Customer, declared.table.TableId.TheVariants.Date, declared.table.TableId.TheVariants.Part, declared.table.TableId.TheVariants.Lineorder, declared.column.ColumnId.ColumnId}
+use Rattle.star_schema.specs.{declared.column.ColumnId.TheVariants.{CCustkey, DDatekey, DYear, LoDiscount, LoExtendedprice, LoLinenumber, LoOrderdate, LoOrderkey, LoQuantity, LoRevenue, LoShipmode, LoSupplycost, LoTax, PBrand1, PSize}, declared.table.Key.TheVariants.Two, declared.table.TableId.TheVariants.{Customer, Date, Part, Lineorder}, declared.column.ColumnId.ColumnId, Schema.{position_of, table_of}, Tables.{Number, Text}}
 use Rattle.star_schema.specs.{declared.group.GroupColumn.TheVariants.Key, declared.group.GroupColumn.TheVariants.Aggregate, Bounds.greatest as greatest_number, Bounds.least as least_number, Bounds.numbers_at, Columns.bounds_in, Records.pieces, Schema.column_of, Schema.columns_of}
-use Rattle.star_schema.specs.{Schema.place_of, Schema.table_of, Tables.Number, Tables.Text}
 use Rattle.star_interval.specs.Range.{Range, is_i64, only}
-use Rattle.star_query.specs.Leaves.{is_so}
-use Rattle.star_query.specs.Tree.{Expression, Name, Tree, add, and, column, constant, count, mul, not, or, sub, test}
-use Rattle.star_query.specs.{declared.token.Relation.TheVariants.Equal, Limits.comparisons_of, Limits.measure_operands, Limits.operands_of, Spelled.has_few_digits, Spelled.is_name, Spelled.is_printable_text}
-use Rattle.star_plan.specs.Sound.{IsSoundPlan, are_distinct, condition_is_sound, expression_is_sound, in_scope, is_group_column, measure_is_sound}
-use Rattle.star_plan.specs.{declared.tree.Join.Join, Fits.Fits, Fits.expression_range, Fits.measure_fits, Fits.nodes_fit, Joins.is_foreign, Joins.is_joined, Joins.is_lone_key, Joins.joins, Limits.IsPlanWithinLimits, Meaning.Plan, Meaning.RowCondition, Meaning.value_in}
-use Rattle.star_plan.specs.{Meaning.value_number, Names.column_called, Names.is_of, Spelled.IsSpelledPlan, Spelled.condition_is_spelled, Spelled.expression_is_spelled, Spelled.measure_is_spelled}
+use Rattle.star_query.specs.{Leaves.is_so, Tree.{Expression, Name, Tree, add, and, column, constant, count, mul, not, or, sub, test}, declared.token.Relation.TheVariants.Equal, Limits.{comparisons_of, measure_operands, operands_of}, Spelled.{has_few_digits, is_name, is_printable_text}}
+use Rattle.star_plan.specs.{Sound.{IsSoundPlan, are_distinct, condition_is_sound, expression_is_sound, in_scope, is_group_column, measure_is_sound}, declared.tree.Join.Join, Fits.{Fits, expression_range, measure_fits, nodes_fit}, Joins.{is_foreign, is_joined, is_lone_key, joins}, Limits.IsPlanWithinLimits, Meaning.{Plan, RowCondition, value_in, value_number}, Names.{column_called, is_of}, Spelled.{IsSpelledPlan, condition_is_spelled, expression_is_spelled, measure_is_spelled}}
 use Rattle.star_query_meaning.specs.{Fitting.FitsTables, Fitting.PlanFitsTables, Fitting.range_named, Rows.measures_of}
 use Rattle.star_compile_laws.proofs.PlanWords.{compare, between, summed, least, greatest}
 use Rattle.star_examples.proofs.Sample.{number, text, sample, by_order, by_commit, cost, discount, of_part, revenue, tax}
@@ -55,23 +47,20 @@ nested_conditions : Gives (is_so (λ (b : Bool). b)) (
     ∷ (not (or (test true) (test false)), false) ∷ [])
 nested_conditions = refl
 
-measures_sound : Gives (expression_is_sound dated) (
-    (tax, true) ∷ (column DYear, true) ∷ (mode, false) ∷ (column PSize, false)
-    ∷ (constant (pos 1), true) ∷ (add tax tax, true) ∷ (add mode tax, false)
-    ∷ (add tax mode, false) ∷ (sub mode tax, false) ∷ (sub tax mode, false) ∷ (mul mode tax, false)
-    ∷ (mul tax mode, false) ∷ [])
-    × Gives (measure_is_sound dated) (
-    (count, true) ∷ (summed tax, true) ∷ (summed mode, false) ∷ (least mode, false)
+measures_sound : Gives (expression_is_sound dated)
+    ((tax, true) ∷ (column DYear, true) ∷ (mode, false) ∷ (column PSize, false)
+    ∷ (constant (pos 1), true) ∷ (add tax tax, true) ∷ (add mode tax, false) ∷ (add tax mode, false)
+    ∷ (sub mode tax, false) ∷ (sub tax mode, false) ∷ (mul mode tax, false) ∷ (mul tax mode, false)
+    ∷ []) × Gives (measure_is_sound dated)
+    ((count, true) ∷ (summed tax, true) ∷ (summed mode, false) ∷ (least mode, false)
     ∷ (greatest mode, false) ∷ [])
 unfolding column_of
 measures_sound = (refl, refl)
 
-joins_sound : Gives are_distinct (
-    (dated, true) ∷ (by_order ∷ of_part ∷ [], true) ∷ (by_order ∷ by_commit ∷ [], false)
-    ∷ (by_order ∷ of_part ∷ by_commit ∷ [], false) ∷ [])
-    × Gives2 is_foreign (
-    (LoOrderdate, DDatekey, true) ∷ (LoOrderdate, CCustkey, false) ∷ (LoOrderdate, DYear, false)
-    ∷ (LoTax, DDatekey, false) ∷ (DDatekey, LoOrderdate, false) ∷ [])
+joins_sound : Gives are_distinct ((dated, true) ∷ (by_order ∷ of_part ∷ [], true)
+    ∷ (by_order ∷ by_commit ∷ [], false) ∷ (by_order ∷ of_part ∷ by_commit ∷ [], false) ∷ [])
+    × Gives2 is_foreign ((LoOrderdate, DDatekey, true) ∷ (LoOrderdate, CCustkey, false)
+    ∷ (LoOrderdate, DYear, false) ∷ (LoTax, DDatekey, false) ∷ (DDatekey, LoOrderdate, false) ∷ [])
     × Gives (is_group_column 2 3)
     ((Key 1, true) ∷ (Key 2, false) ∷ (Aggregate 2, true) ∷ (Aggregate 3, false) ∷ [])
 unfolding column_of
@@ -88,23 +77,21 @@ pairs : (at : _) → (is_lone_key LoOrderkey (Two LoOrderkey LoLinenumber) ≡ f
 unfolding column_of
 pairs at = (refl, refl, refl)
 
--- a name that is no column's has no wrong kind; a value that a row hasn't, and the number of a text,
--- are 0
+-- a name that is no column's has no wrong kind; a value that a row hasn't, and the number of a
+-- text, are 0
 defaults : Gives (λ k. is_of k None) ((kind.Number, true) ∷ (kind.Text, true) ∷ [])
     × (value_in DYear [] ≡ Number (pos 0)) × (value_number (Text (codes "7")) ≡ pos 0)
-unfolding column_of place_of
+unfolding column_of position_of
 defaults = (refl, refl, refl)
 
 -- ---- limits, and how words are spelled: 18 digits and not 19, from the space to the tilde
 
-counted : Gives comparisons_of (
-    (good, 1) ∷ (between DYear (number 1) (number 2), 1) ∷ (not good, 2) ∷ (or good (not good), 3)
-    ∷ (and (not good) (and good good), 4) ∷ [])
-    × Gives operands_of (
-    (tax, 1) ∷ (constant (pos 1), 1) ∷ (add tax tax, 2) ∷ (sub tax (add tax tax), 3)
-    ∷ (mul (sub tax tax) (mul tax tax), 4) ∷ [])
-    × Gives measure_operands
-    ((count, 0) ∷ (summed (add tax tax), 2) ∷ (least tax, 1) ∷ (greatest tax, 1) ∷ [])
+counted : Gives comparisons_of ((good, 1) ∷ (between DYear (number 1) (number 2), 1)
+    ∷ (not good, 2) ∷ (or good (not good), 3) ∷ (and (not good) (and good good), 4) ∷ [])
+    × Gives operands_of ((tax, 1) ∷ (constant (pos 1), 1) ∷ (add tax tax, 2)
+    ∷ (sub tax (add tax tax), 3) ∷ (mul (sub tax tax) (mul tax tax), 4) ∷ [])
+    × Gives measure_operands ((count, 0) ∷ (summed (add tax tax), 2) ∷ (least tax, 1)
+    ∷ (greatest tax, 1) ∷ [])
 counted = (refl, refl, refl)
 
 words_spelled : Gives is_name (
@@ -129,20 +116,18 @@ one = constant (pos 1)
 abbrev long : Expression ColumnId
 long = constant (pos 1000000000000000000)
 
-plans_spelled : Gives condition_is_spelled (
-    (good, true) ∷ (compare LoTax Equal (number 1000000000000000000), false) ∷ (bad, false)
+plans_spelled : Gives condition_is_spelled ((good, true)
+    ∷ (compare LoTax Equal (number 1000000000000000000), false) ∷ (bad, false)
     ∷ (or good bad, false) ∷ (or bad good, false) ∷ (or good good, true) ∷ (and good bad, false)
     ∷ (and bad good, false) ∷ (and good good, true) ∷ (not bad, false) ∷ (not good, true)
     ∷ (between LoTax (number 1) (number 2), true)
     ∷ (between LoTax (number 1) (number 1000000000000000000), false)
     ∷ (between LoTax (number 1000000000000000000) (number 1), false) ∷ [])
-    × Gives expression_is_spelled (
-    (column LoTax, true) ∷ (one, true) ∷ (long, false) ∷ (add one one, true) ∷ (add one long, false)
-    ∷ (add long one, false) ∷ (sub one long, false) ∷ (sub long one, false) ∷ (mul one long, false)
-    ∷ (mul long one, false) ∷ [])
-    × Gives measure_is_spelled (
-    (count, true) ∷ (summed one, true) ∷ (summed long, false) ∷ (least long, false)
-    ∷ (greatest long, false) ∷ [])
+    × Gives expression_is_spelled ((column LoTax, true) ∷ (one, true) ∷ (long, false)
+    ∷ (add one one, true) ∷ (add one long, false) ∷ (add long one, false) ∷ (sub one long, false)
+    ∷ (sub long one, false) ∷ (mul one long, false) ∷ (mul long one, false) ∷ [])
+    × Gives measure_is_spelled ((count, true) ∷ (summed one, true) ∷ (summed long, false)
+    ∷ (least long, false) ∷ (greatest long, false) ∷ [])
 unfolding has_few_digits is_printable_text
 plans_spelled = (refl, refl, refl)
 
@@ -238,7 +223,7 @@ unfolding is_i64
 nodes = (refl, refl, refl)
 
 abbrev called : List ℕ → Name
-called word = record { text = word; place = 0 }
+called word = record { text = word; offset = 0 }
 
 -- no line has this profit or that: each end is of two lines
 bounds_of_the_sample : Gives (bounds_in sample) (
@@ -249,5 +234,6 @@ bounds_of_the_sample : Gives (bounds_in sample) (
     × Gives (λ word. range_named sample (called word)) (
     (codes "lo_discount", from_to (pos 0) (pos 10)) ∷ (codes "d_year", from_to (pos 1993) (pos 1997))
     ∷ (codes "discount", from_to (pos 0) (pos 0)) ∷ [])
-unfolding column_of columns_of place_of pieces greatest_number least_number numbers_at column_called
+unfolding column_of columns_of position_of pieces greatest_number least_number numbers_at
+    column_called
 bounds_of_the_sample = (refl, refl, refl)

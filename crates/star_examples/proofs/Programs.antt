@@ -1,7 +1,6 @@
 -- Which programs are verified and may be run, the ranges of a report, and words.
-use Rattle.std.proofs.Common.{◌<◌, ◌^◌, ◌∷◌, ◌≡◌, ◌≤◌, Bool, None, Option, Some, [], arith, false, inl, inr, length, refl, subst, true, ℕ, ℤ}
-use Rattle.std.specs.Prelude.{codes, pos}
-use Rattle.star_common.specs.{Quotes.quoted, First.first_answer, Memory.UnlessMemory, Numerals.numeral_of}
+use Rattle.std.{proofs.Common.{◌<◌, ◌^◌, ◌∷◌, ◌≡◌, ◌≤◌, Bool, None, Option, Some, [], arith, false, inl, inr, length, refl, subst, true, ℕ, ℤ}, specs.Prelude.{codes, pos}}
+use Rattle.star_common.{specs.Quotes.quoted, specs.First.first_answer, specs.Memory.UnlessMemory, specs.Numerals.numeral_of, proofs.Tables.Gives}
 use Rattle.star_schema.specs.{declared.group.Shape.TheVariants.Plain, Schema.kind_of, declared.column.ColumnId.ColumnId, declared.table.TableId.TableId, Database.Database, Database.rows_in, Columns.column_dictionary, declared.group.Aggregate.TheVariants.Sum, Loadable.IsSound}
 use Rattle.star_program.specs.{Run.Limited, Run.Trapped, declared.fault.TrapKind.TheVariants.AbsentKey, declared.group.GroupDecl.GroupDecl, declared.program.Parts.Parts, Code.Stop, Code.Then, Limits.IsWithinLimits}
 use Rattle.star_safety.specs.{Admissible.IsAdmissible, Admissible.Refused, declared.reason.Reason.TheVariants.Overflow, Quote.quote}
@@ -12,7 +11,6 @@ use Rattle.star_verify.specs.Checked.{Checked, IsVerified}
 use Rattle.star_run.specs.ShownRanges.{reported_range}
 use Rattle.star_world.specs.WorldOf.{world_of}
 use Rattle.star_machine.specs.Accepted.{IsAcceptedOver}
-use Rattle.star_common.proofs.Tables.{Gives}
 use Rattle.star_schema.specs.declared.column.Kind.TheVariants as kind
 use Rattle.star_program.specs.declared.group.GroupKey.TheVariants as declared
 use Rattle.star_program.specs.declared.key.KeyValue.TheVariants as key
@@ -52,7 +50,8 @@ two_sums = record {
 }
 
 reported_ranges : Gives (reported_range of_programs.sample two_sums)
-    ((0, Some (record { low = pos 0; high = pos 2 })) ∷ (1, Some (record { low = pos 0; high = pos 3 }))
+    ((0, Some (record { low = pos 0; high = pos 2 }))
+    ∷ (1, Some (record { low = pos 0; high = pos 3 }))
     ∷ [])
 reported_ranges = refl
 

@@ -1,8 +1,7 @@
 -- The comparisons of worked queries, as a reader says them.
-use Rattle.star_query.specs.declared.token.Relation.{Relation}
+use Rattle.star_query.specs.{declared.token.Relation.Relation, Tree.{Condition, Name, Test, comparison, test}}
 use Rattle.star_schema.specs.Tables.{Value}
 use Rattle.star_query.specs.Tree as tree
-use Rattle.star_query.specs.Tree.{Condition, Name, Test, comparison, test}
 
 abbrev pub pair : Name → Name → Condition Test
 pair m n = test (tree.pair m n)

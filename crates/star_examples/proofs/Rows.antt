@@ -1,15 +1,10 @@
--- Which rows a condition holds of, and which rows a query selects, by its own words; what they add to
--- their groups.
-use Rattle.std.proofs.Common.{◌≡◌, ℕ, Bool, true, false, List, [], ◌∷◌, Some, refl}
-use Rattle.std.specs.Prelude.{pos, neg_ℤ, codes, map}
+-- Which rows a condition holds of, and which rows a query selects, by its own words; what they add
+-- to their groups.
+use Rattle.std.{proofs.Common.{◌≡◌, ℕ, Bool, true, false, List, [], ◌∷◌, Some, refl}, specs.Prelude.{pos, neg_ℤ, codes, map}}
 use Rattle.star_common.proofs.Tables.{Gives, Gives2}
-use Rattle.star_schema.specs.{declared.table.TableId.TheVariants.Date, declared.table.TableId.TheVariants.Lineorder, declared.table.TableId.TheVariants.Supplier, declared.column.ColumnId.ColumnId, declared.column.ColumnId.TheVariants.DYear, declared.column.ColumnId.TheVariants.LoQuantity}
-use Rattle.star_schema.specs.{declared.column.ColumnId.TheVariants.LoShipmode, declared.column.ColumnId.TheVariants.SSuppkey, declared.group.Shape.TheVariants.Plain, declared.group.Aggregate.TheVariants.Count, declared.group.Aggregate.TheVariants.Sum}
-use Rattle.star_schema.specs.{declared.group.Aggregate.TheVariants.Min, declared.group.Aggregate.TheVariants.Max, Records.pieces, Schema.column_of, Schema.columns_of, Schema.place_of, Schema.table_name, Tables.Value, Tables.row_of}
-use Rattle.star_query.specs.declared.token.Relation.TheVariants.{Equal, Unequal, Less, AtMost, Greater, AtLeast}
-use Rattle.star_query.specs.Tree.{Condition, Name, Test, Tree, add, and, constant, count, mul, not, or, sub}
-use Rattle.star_plan.specs.Meaning.{Joined, RowCondition, aggregate_of, holds, joined_value, measured, number_with, only_row}
-use Rattle.star_plan.specs.{Names.column_called, Names.table_called}
+use Rattle.star_schema.specs.{declared.table.TableId.TheVariants.{Date, Lineorder, Supplier}, declared.column.ColumnId.ColumnId, declared.column.ColumnId.TheVariants.{DYear, LoQuantity, LoShipmode, SSuppkey}, declared.group.Shape.TheVariants.Plain, declared.group.Aggregate.TheVariants.{Count, Sum, Min, Max}, Records.pieces, Schema.{column_of, columns_of, position_of, table_name}, Tables.{Value, row_of}}
+use Rattle.star_query.specs.{declared.token.Relation.TheVariants.{Equal, Unequal, Less, AtMost, Greater, AtLeast}, Tree.{Condition, Name, Test, Tree, add, and, constant, count, mul, not, or, sub}}
+use Rattle.star_plan.specs.{Meaning.{Joined, RowCondition, aggregate_of, holds, joined_value, measured, number_with, only_row}, Names.{column_called, table_called}}
 use Rattle.star_query_meaning.specs.Rows.{is_true, product, selected, tables_of, value_named}
 use Rattle.star_compile_laws.proofs.PlanWords.{compare, between, summed, least, greatest}
 use Rattle.star_examples.proofs.Sample.{number, below_zero, text, sample, revenue, cost, discount}
@@ -34,8 +29,8 @@ of_quantities values c = map (λ v. holds c (line v (text (codes "MAIL")))) valu
 abbrev of_modes : List (List ℕ) → RowCondition → List Bool
 of_modes modes c = map (λ m. holds c (line (number 10) (text m))) modes
 
--- at less, equal and greater; and of texts by their bytes: one that goes on is greater, as is a small
--- letter
+-- at less, equal and greater; and of texts by their bytes: one that goes on is greater, as is a
+-- small letter
 relations : Gives (λ s. of_quantities (number 9 ∷ number 10 ∷ number 11 ∷ [])
     (compare LoQuantity s (number 10))) (
     (Equal, false ∷ true ∷ false ∷ []) ∷ (Unequal, true ∷ false ∷ true ∷ [])
@@ -49,10 +44,11 @@ relations : Gives (λ s. of_quantities (number 9 ∷ number 10 ∷ number 11 ∷
     ∷ (AtMost, true ∷ true ∷ false ∷ true ∷ false ∷ false ∷ [])
     ∷ (Greater, false ∷ false ∷ true ∷ false ∷ true ∷ true ∷ [])
     ∷ (AtLeast, false ∷ true ∷ true ∷ false ∷ true ∷ true ∷ []) ∷ [])
-unfolding column_of place_of
+unfolding column_of position_of
 relations = (refl, refl)
 
--- below 0 by value, digits as bytes; between two with both, and nothing from the greater to the lesser
+-- below 0 by value, digits as bytes; between two with both, and nothing from the greater to the
+-- lesser
 ends : Gives2 of_quantities ((
   below_zero 11 ∷ below_zero 10 ∷ below_zero 9 ∷ number 0 ∷ number 11 ∷ [],
   compare LoQuantity Less (below_zero 10),
@@ -76,7 +72,7 @@ ends : Gives2 of_quantities ((
       between LoShipmode (text (codes "MFGR#2221")) (text (codes "MFGR#2228")),
       false ∷ true ∷ true ∷ true ∷ false ∷ [],
     ) ∷ [])
-unfolding column_of place_of
+unfolding column_of position_of
 ends = (refl, refl)
 
 abbrev yes : RowCondition
@@ -89,7 +85,7 @@ conditions : Gives (λ c. holds c (line (number 10) (text (codes "MAIL")))) (
     (or yes yes, true) ∷ (or yes never, true) ∷ (or never yes, true) ∷ (or never never, false)
     ∷ (and yes yes, true) ∷ (and yes never, false) ∷ (and never yes, false)
     ∷ (and never never, false) ∷ (not yes, false) ∷ (not never, true) ∷ (not (not yes), true) ∷ [])
-unfolding column_of place_of
+unfolding column_of position_of
 conditions = refl
 
 -- ---- expressions and aggregates, of a line with the revenue 980, the cost 600 and the discount 2
@@ -109,7 +105,7 @@ expressions : Gives (number_with (λ c. joined_value c mail)) (
     ∷ (greatest (sub revenue cost), pos 380) ∷ [])
     × Gives (aggregate_of {C = ColumnId})
     ((count, Count) ∷ (summed cost, Sum) ∷ (least cost, Min) ∷ (greatest cost, Max) ∷ [])
-unfolding column_of columns_of place_of pieces
+unfolding column_of columns_of position_of pieces
 expressions = (refl, refl, refl)
 
 -- ---- by a query's own words: the product of FROM's tables, every row of the first with every row of
@@ -122,7 +118,7 @@ abbrev n : ℕ → ℕ → List Value
 n a b = number a ∷ number b ∷ []
 
 abbrev called : List ℕ → Name
-called word = record { text = word; place = 0 }
+called word = record { text = word; offset = 0 }
 
 products : Gives (λ tables. seen (SSuppkey ∷ DYear ∷ []) (product sample tables)) ((
   Supplier ∷ Date ∷ [],
@@ -133,7 +129,7 @@ products : Gives (λ tables. seen (SSuppkey ∷ DYear ∷ []) (product sample ta
       n 1 1993 ∷ n 2 1993 ∷ n 1 1994 ∷ n 2 1994 ∷ n 1 1997 ∷ n 2 1997 ∷ [],
     ) ∷ [])
     × (tables_of (called (codes "supplier") ∷ called (codes "date") ∷ []) ≡ Supplier ∷ Date ∷ [])
-unfolding column_of columns_of place_of pieces table_called table_name
+unfolding column_of columns_of position_of pieces table_called table_name
 products = (refl, refl)
 
 abbrev asked : Condition Test → Tree
@@ -152,8 +148,8 @@ supplied = words.pair (called (codes "lo_suppkey")) (called (codes "s_suppkey"))
 abbrev many : Condition Test
 many = words.compare (called (codes "lo_quantity")) Greater (of_table.Number (pos 20))
 
--- with no comparison of two columns each line is there with each supplier; such a comparison is one of
--- WHERE's conditions like another
+-- with no comparison of two columns each line is there with each supplier; such a comparison is one
+-- of WHERE's conditions like another
 filtered : Gives (λ c. seen (LoQuantity ∷ SSuppkey ∷ []) (selected sample (asked c))) (
     (many, n 30 1 ∷ n 30 2 ∷ n 24 1 ∷ n 24 2 ∷ n 50 1 ∷ n 50 2 ∷ [])
     ∷ (and supplied many, n 30 1 ∷ n 24 2 ∷ n 50 2 ∷ [])
@@ -162,8 +158,9 @@ filtered : Gives (λ c. seen (LoQuantity ∷ SSuppkey ∷ []) (selected sample (
       n 30 1 ∷ n 24 2 ∷ n 50 2 ∷ [],
     )
     ∷ (and (not supplied) many, n 30 2 ∷ n 24 1 ∷ n 50 1 ∷ [])
-    ∷ (or supplied (not many), n 10 1 ∷ n 10 2 ∷ n 30 1 ∷ n 24 2 ∷ n 50 2 ∷ n 1 1 ∷ n 1 2 ∷ []) ∷ [])
-unfolding column_of columns_of place_of pieces column_called table_called table_name
+    ∷ (or supplied (not many), n 10 1 ∷ n 10 2 ∷ n 30 1 ∷ n 24 2 ∷ n 50 2 ∷ n 1 1 ∷ n 1 2 ∷ [])
+    ∷ [])
+unfolding column_of columns_of position_of pieces column_called table_called table_name
 filtered = refl
 
 abbrev discounted : ℕ → ℕ → Bool
@@ -183,5 +180,5 @@ betweens : Gives2 discounted (
     ∷ (codes "A", codes "MAI", false) ∷ [])
     × (value_named (called (codes "discount")) mail ≡ of_table.Number (pos 0))
     × (measured (λ w. value_named w mail) count ≡ pos 1)
-unfolding column_of columns_of place_of pieces column_called
+unfolding column_of columns_of position_of pieces column_called
 betweens = (refl, refl, refl, refl)

@@ -1,10 +1,7 @@
 -- A small star: five lines of orders, and what they refer to; and the joins and columns that worked
 -- queries over it name.
-use Rattle.std.proofs.Common.{ℕ, List, [], ◌∷◌, ◌++◌, drop, take}
-use Rattle.std.specs.Prelude.{pos, neg_ℤ, codes, flat_map, map}
-use Rattle.star_schema.specs.declared.table.TableId.TheVariants.{Date, Customer, Supplier, Part, Lineorder}
-use Rattle.star_schema.specs.declared.column.ColumnId.TheVariants.{DDatekey, PPartkey, LoPartkey, LoOrderdate, LoCommitdate, LoRevenue, LoSupplycost, LoTax, LoDiscount}
-use Rattle.star_schema.specs.{declared.table.TableId.TableId, Database.Database, Database.TableTexts, Tables.Value, Tables.Number, Tables.Text, Tables.row_of, declared.column.ColumnId.ColumnId}
+use Rattle.std.{proofs.Common.{ℕ, List, [], ◌∷◌, ◌++◌, drop, take}, specs.Prelude.{pos, neg_ℤ, codes, flat_map, map}}
+use Rattle.star_schema.specs.{declared.table.TableId.TheVariants.{Date, Customer, Supplier, Part, Lineorder}, declared.column.ColumnId.TheVariants.{DDatekey, PPartkey, LoPartkey, LoOrderdate, LoCommitdate, LoRevenue, LoSupplycost, LoTax, LoDiscount}, declared.table.TableId.TableId, Database.{Database, TableTexts}, Tables.{Value, Number, Text, row_of}, declared.column.ColumnId.ColumnId}
 use Rattle.star_plan.specs.{declared.tree.Join.Join, Meaning.Tables}
 use Rattle.star_query.specs.Tree.{Expression, column}
 
@@ -88,5 +85,6 @@ abbrev pub lines : List (List ℕ) → List ℕ
 lines records = flat_map (λ line. line ++ 10 ∷ []) records
 
 abbrev pub sample_texts : TableTexts
-sample_texts Lineorder = lines (take 2 (records Lineorder)) ∷ lines (drop 2 (records Lineorder)) ∷ []
+sample_texts Lineorder = lines (take 2 (records Lineorder)) ∷ lines (drop 2 (records Lineorder))
+    ∷ []
 sample_texts t = lines (records t) ∷ []

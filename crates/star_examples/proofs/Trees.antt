@@ -1,28 +1,21 @@
--- What texts mean, every form of the grammar as its tree, and what the tree of every query keeps: it
--- is within limits, and its words are spelled.
-use Rattle.std.proofs.Common.{◌≡◌, ◌≤◌, ◌*◌, ℕ, true, false, List, [], ◌∷◌, Option, Some, None, Ok, length, refl}
-use Rattle.std.specs.{Prelude.codes, Prelude.neg_ℤ, Prelude.pos, Prelude.sum_by, List.AllByRecursion, List.list_all}
+-- What texts mean, every form of the grammar as its tree, and what the tree of every query keeps:
+-- it is within limits, and its words are spelled.
+use Rattle.std.{proofs.Common.{◌≡◌, ◌≤◌, ◌*◌, ℕ, true, false, List, [], ◌∷◌, Option, Some, None, Ok, length, refl}, specs.Prelude.{codes, neg_ℤ, pos, sum_by}, specs.List.{AllByRecursion, list_all}}
 use Rattle.star_common.proofs.Tables.{Gives, each_row}
 use Rattle.star_schema.specs.{declared.group.Shape.TheVariants.Plain, declared.group.Shape.TheVariants.Cube, declared.group.Shape.TheVariants.Rollup, declared.group.Direction.TheVariants.Ascending, declared.group.Direction.TheVariants.Descending, Tables.Number, Tables.Text}
-use Rattle.star_query.specs.declared.token.Relation.TheVariants.{Equal, Unequal, Less, AtMost, Greater, AtLeast}
-use Rattle.star_query.specs.Private.Phrases.{ascending, cube, descending, grouped, groups_tree, hiding, key_tree, one, rollup, ungrouped, unmarked}
-use Rattle.star_query.specs.Spelled.{IsSpelledQuery, condition_is_spelled, expression_is_spelled, has_few_digits, is_name, is_printable_text, item_is_spelled, where_is_spelled}
+use Rattle.star_query.{specs.declared.token.Relation.TheVariants.{Equal, Unequal, Less, AtMost, Greater, AtLeast}, specs.Private.Phrases.{ascending, cube, descending, grouped, groups_tree, hiding, key_tree, one, rollup, ungrouped, unmarked}, specs.Spelled.{IsSpelledQuery, condition_is_spelled, expression_is_spelled, has_few_digits, is_name, is_printable_text, item_is_spelled, where_is_spelled}, specs.Tree.{Condition, Expression, Grouping, Item, Measure, Name, SortKey, Test, Tree, add, aggregate, and, column, constant, count, fold, mul, not, or, plain, sub}, specs.declared.token.Fold.TheVariants.{Sum, Min, Max}, specs.Private.Cut.{cut_from, cut_of, reserved, reserved_words}, specs.Limits.{IsQueryWithinLimits, aggregates_in, item_operands, where_comparisons}, specs.Maxima.most_bytes, specs.Meant.IsMeant, proofs.Told.{Says, Told, holds, means, told}}
 use Rattle.star_query.specs.Symbols.{Placed, Symbol, number as number_symbol, relation, spelling}
-use Rattle.star_query.specs.Tree.{Condition, Expression, Grouping, Item, Measure, Name, SortKey, Test, Tree, add, aggregate, and, column, constant, count, fold, mul, not, or, plain, sub}
-use Rattle.star_query.specs.{declared.token.Fold.TheVariants.Sum, declared.token.Fold.TheVariants.Min, declared.token.Fold.TheVariants.Max, Private.Cut.cut_from, Private.Cut.cut_of, Private.Cut.reserved, Private.Cut.reserved_words, Limits.IsQueryWithinLimits, Limits.aggregates_in}
-use Rattle.star_query.specs.{Limits.item_operands, Limits.where_comparisons, Maxima.most_bytes, Meant.IsMeant}
-use Rattle.star_query.proofs.Told.{Says, Told, holds, means, told}
 use Rattle.star_examples.proofs.QueryTests.{pair, compare, between}
 
 -- a name, and where it stands
 abbrev called : List ℕ → ℕ → Name
-called word at = record { text = word; place = at }
+called word at = record { text = word; offset = at }
 
 abbrev of : Measure Name → ℕ → Item
-of m at = aggregate (record { measure = m; place = at; name = None })
+of m at = aggregate (record { measure = m; offset = at; name = None })
 
 abbrev under : Measure Name → ℕ → Name → Item
-under m at name = aggregate (record { measure = m; place = at; name = Some name })
+under m at name = aggregate (record { measure = m; offset = at; name = Some name })
 
 abbrev all : Grouping
 all = record { shape = Plain; columns = [] }
@@ -137,7 +130,7 @@ phrases : (n : Name) → Gives key_tree (
 phrases n = (refl, refl)
 
 abbrev at : ℕ → Symbol → Placed
-at place x = record { symbol = x; place = place }
+at offset x = record { symbol = x; offset = offset }
 
 signs : cut_of (codes "<7>=8")
     ≡ Ok (at 0 (relation Less) ∷ at 1 (number_symbol 7) ∷ at 2 (relation AtLeast)
@@ -177,21 +170,19 @@ bad = compare a Equal (Text (10 ∷ []))
 abbrev long : Expression Name
 long = constant (pos 1000000000000000000)
 
-words_spelled : Gives expression_is_spelled (
-    (column a, true) ∷ (column hyphened, false) ∷ (long, false) ∷ (add (column a) long, false)
-    ∷ (add long (column a), false) ∷ (sub (column a) long, false) ∷ (sub long (column a), false)
-    ∷ (mul (column a) long, false) ∷ (mul long (column a), false) ∷ [])
-    × Gives condition_is_spelled (
-    (good, true) ∷ (bad, false) ∷ (compare hyphened Equal (Number (pos 1)), false)
-    ∷ (pair a a, true) ∷ (pair hyphened a, false) ∷ (pair a hyphened, false)
-    ∷ (between a (Number (pos 1)) (Text (10 ∷ [])), false)
+words_spelled : Gives expression_is_spelled ((column a, true) ∷ (column hyphened, false)
+    ∷ (long, false) ∷ (add (column a) long, false) ∷ (add long (column a), false)
+    ∷ (sub (column a) long, false) ∷ (sub long (column a), false) ∷ (mul (column a) long, false)
+    ∷ (mul long (column a), false) ∷ [])
+    × Gives condition_is_spelled ((good, true) ∷ (bad, false)
+    ∷ (compare hyphened Equal (Number (pos 1)), false) ∷ (pair a a, true) ∷ (pair hyphened a, false)
+    ∷ (pair a hyphened, false) ∷ (between a (Number (pos 1)) (Text (10 ∷ [])), false)
     ∷ (between a (Text (10 ∷ [])) (Number (pos 1)), false)
-    ∷ (between hyphened (Number (pos 1)) (Number (pos 1)), false)
-    ∷ (or good good, true) ∷ (or bad good, false) ∷ (or good bad, false) ∷ (and bad good, false)
-    ∷ (and good bad, false) ∷ (not bad, false) ∷ [])
+    ∷ (between hyphened (Number (pos 1)) (Number (pos 1)), false) ∷ (or good good, true)
+    ∷ (or bad good, false) ∷ (or good bad, false) ∷ (and bad good, false) ∷ (and good bad, false)
+    ∷ (not bad, false) ∷ [])
     × Gives where_is_spelled ((Some good, true) ∷ (Some bad, false) ∷ (None, true) ∷ [])
-    × Gives item_is_spelled (
-    (plain a, true) ∷ (plain hyphened, false) ∷ (of count 0, true) ∷ (of (fold Sum long) 0, false)
-    ∷ (under count 0 hyphened, false) ∷ [])
+    × Gives item_is_spelled ((plain a, true) ∷ (plain hyphened, false) ∷ (of count 0, true)
+    ∷ (of (fold Sum long) 0, false) ∷ (under count 0 hyphened, false) ∷ [])
 unfolding is_name has_few_digits is_printable_text
 words_spelled = (refl, refl, refl, refl)

@@ -2,5 +2,5 @@
 //! plans and tables.
 //!
 //! They refuse the definitions next to the right ones: a relation, an operator or an aggregate in
-//! place of another, an end left out, a row lost. No crate uses this one, and it has no code.
+//! position of another, an end left out, a row lost. No crate uses this one, and it has no code.
 #![tactic(auto)]

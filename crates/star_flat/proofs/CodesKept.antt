@@ -1,10 +1,6 @@
 -- The codes of texts that were put in order.
-use Rattle.std.proofs.Common.{◌≡◌, ℕ, ◌+◌, ◌-◌, ◌<◌, ◌≤◌, false, List, [], ◌∷◌, ◌++◌, Some, length, get_or, set, take, refl, sym, ap, ◌∙◌, inl, inr, ⊎_elim, arith, subst, true≢false}
-use Rattle.std.proofs.{lemmas.List.ext_get_or, lemmas.List.get_or-map, lemmas.List.get_or_default, lemmas.List.get_or-set_same, lemmas.List.get_or-set_other, lemmas.List.get_or-take, lemmas.List.length-map, lemmas.List.length-take, lemmas.Bool.cases_Bool, lemmas.Bool.cases_eq, lemmas.Bool.cases_lt, lemmas.Cmp.nat_list_cmp_total, lemmas.Cmp.tied_itself, lemmas.List.Elements.All-get_or, lemmas.List.Elements.All-more, lemmas.List.Elements.Contains-get_or, lemmas.List.Kept.Contains-from_dedup, lemmas.List.Kept.IsStrictlySortedBy-dedup, lemmas.Map.Keys.Less-from_sorted}
-use Rattle.std.proofs.{lemmas.Map.Lookups.exact_bytes, lemmas.Option.get_or_from_slice_get, lemmas.Option.slice_get-get_or, lemmas.Option.slice_get-map, lemmas.Option.slice_get_within}
-use Rattle.std.specs.{Cmp.Lexicographic.bytes_decides, List.Contains, List.slice_get, List.Sorted.IsStrictlySortedBy, Option.option_map, Ordering.eq_by_cmp, Ordering.is_eq, declared.cmp.Ordering.Ordering, declared.cmp.Ordering.TheVariants.Less, declared.cmp.Ordering.TheVariants.Equal, declared.cmp.Ordering.TheVariants.Greater}
-use Rattle.star_flat.specs.{Repeated.AreRepeated, Repeated.texts_at_places, declared.ordered.Numbered.Numbered, Private.Codes.LeadTo, Private.Codes.different, Private.Codes.same_text, Private.Order.AreInTextOrder, Private.Order.numbered_texts, Private.Order.text_at, Private.Order.text_cmp}
-use Rattle.star_flat.proofs.{Different.different_again, Different.different_new, Different.stands_last, Enumerated.nothing, InOrder.number_of}
+use Rattle.std.{proofs.Common.{◌≡◌, ℕ, ◌+◌, ◌-◌, ◌<◌, ◌≤◌, false, List, [], ◌∷◌, ◌++◌, Some, length, get_or, set, take, refl, sym, ap, ◌∙◌, inl, inr, ⊎_elim, arith, subst, true≢false}, proofs.lemmas.List.{ext_get_or, get_or-map, get_or_default, get_or-set_same, get_or-set_other, get_or-take, length-map, length-take}, proofs.lemmas.Bool.{cases_Bool, cases_eq, cases_lt}, proofs.lemmas.Cmp.{nat_list_cmp_total, tied_itself}, proofs.lemmas.List.Elements.{All-get_or, All-more, Contains-get_or}, proofs.lemmas.List.Kept.{Contains-from_dedup, IsStrictlySortedBy-dedup}, proofs.lemmas.Map.Keys.Less-from_sorted, proofs.lemmas.Map.Lookups.exact_bytes, proofs.lemmas.Option.{get_or_from_slice_get, slice_get-get_or, slice_get-map, slice_get_within}, specs.Cmp.Lexicographic.bytes_decides, specs.List.{Contains, slice_get}, specs.List.Sorted.IsStrictlySortedBy, specs.Option.option_map, specs.Ordering.{eq_by_cmp, is_eq}, specs.declared.cmp.Ordering.Ordering, specs.declared.cmp.Ordering.TheVariants.{Less, Equal, Greater}}
+use Rattle.star_flat.{specs.Repeated.{AreRepeated, texts_at_indexes}, specs.declared.ordered.Numbered.Numbered, specs.Private.Codes.{LeadTo, different, same_text}, specs.Private.Order.{AreInTextOrder, numbered_texts, text_at, text_cmp}, proofs.Different.{different_again, different_new, stands_last}, proofs.Enumerated.nothing, proofs.InOrder.number_of}
 
 -- ---- the different ones of texts in order are a dictionary
 ties : (a b : List ℕ) → same_text a b ≡ eq_by_cmp text_cmp a b
@@ -30,7 +26,7 @@ pub sorted_different : (texts : List (List ℕ)) (ordered : List Numbered)
 sorted_different texts ordered order =
     IsStrictlySortedBy-dedup nat_list_cmp_total ties (numbered_texts texts ordered) order.sorted
 
--- a text stands at one place of texts that are strictly in order
+-- a text stands at one position of texts that are strictly in order
 not_before : (ts : List (List ℕ)) → IsStrictlySortedBy text_cmp ts → (m n : ℕ) (t : List ℕ)
     → slice_get ts m ≡ Some t → slice_get ts n ≡ Some t → m < n → ⊥
 not_before ts sorted m n t at_m at_n before =
@@ -40,9 +36,9 @@ not_before ts sorted m n t at_m at_n before =
     ∙ Less-from_sorted text_cmp ts m n [] sorted before (slice_get_within ts n t at_n) in
     true≢false (sym (ap is_eq (tied_itself nat_list_cmp_total t)) ∙ ap is_eq less)
 
-one_place : (ts : List (List ℕ)) → IsStrictlySortedBy text_cmp ts → (m n : ℕ) (t : List ℕ)
+one_index : (ts : List (List ℕ)) → IsStrictlySortedBy text_cmp ts → (m n : ℕ) (t : List ℕ)
     → slice_get ts m ≡ Some t → slice_get ts n ≡ Some t → m ≡ n
-one_place ts sorted m n t at_m at_n = ⊎_elim {C = m ≡ n}
+one_index ts sorted m n t at_m at_n = ⊎_elim {C = m ≡ n}
     (λ before. absurd (not_before ts sorted m n t at_m at_n before))
     (λ from. ⊎_elim {C = m ≡ n}
     (λ after. absurd (not_before ts sorted n m t at_n at_m after))
@@ -52,7 +48,7 @@ one_place ts sorted m n t at_m at_n = ⊎_elim {C = m ≡ n}
 
 module _ (texts : List (List ℕ)) (ordered : List Numbered)
     (order : AreInTextOrder texts ordered) where
-  -- ---- the codes are the places of the texts there
+  -- ---- the codes are the positions of the texts there
   module _ (put : List (List ℕ)) (codes : List ℕ)
       (made : put ≡ different (numbered_texts texts ordered))
       (few : length put ≤ length texts) (len : length codes ≡ length texts)
@@ -75,12 +71,12 @@ module _ (texts : List (List ℕ)) (ordered : List Numbered)
         let within : n < length texts = omega (arith, h, len) in
         coded_at n within ∙ slice_get-get_or texts n [] within
 
-    pub texts_coded : texts_at_places put codes ≡ texts
-    texts_coded = ext_get_or [] (texts_at_places put codes) texts
-        (length-map codes (λ place. get_or put place []) ∙ len)
+    pub texts_coded : texts_at_indexes put codes ≡ texts
+    texts_coded = ext_get_or [] (texts_at_indexes put codes) texts
+        (length-map codes (λ index. get_or put index []) ∙ len)
         (λ i h. let within : i < length codes =
-        omega (arith, h, length-map codes (λ place. get_or put place [])) in
-        get_or-map (λ place. get_or put place []) codes i 0 [] within
+        omega (arith, h, length-map codes (λ index. get_or put index [])) in
+        get_or-map (λ index. get_or put index []) codes i 0 [] within
         ∙ get_or_from_slice_get put (get_or codes i 0) (get_or texts i []) [] (stands_at i within))
 
     -- each text that was put is that of a number
@@ -104,7 +100,7 @@ module _ (texts : List (List ℕ)) (ordered : List Numbered)
         let there = number_put p h in
         let within : there.0 < length codes = omega (arith, there.1, len) in
         let code : get_or codes there.0 0 ≡ p =
-        one_place put (rw made (sorted_different texts ordered order)) (get_or codes there.0 0) p
+        one_index put (rw made (sorted_different texts ordered order)) (get_or codes there.0 0) p
         (get_or put p []) (stands_at there.0 within ∙ ap Some there.2)
         (slice_get-get_or put p [] h) in
         (there.0, within, get_or_default codes there.0 p 0 within ∙ code)
@@ -120,52 +116,50 @@ module _ (texts : List (List ℕ)) (ordered : List Numbered)
       few = omega (arith, few, len);
     }
 
-  -- ---- the text at a place
-  module _ (place : ℕ) (within : place < length ordered) where
+  -- ---- the text at a position
+  module _ (index : ℕ) (within : index < length ordered) where
     abbrev pub here : Numbered
-    here = get_or ordered place nothing
+    here = get_or ordered index nothing
 
     pub number_within : here.number < length texts
-    number_within = All-get_or (λ (x : Numbered). x.number < length texts) ordered place nothing
+    number_within = All-get_or (λ (x : Numbered). x.number < length texts) ordered index nothing
         within order.within
 
-    pub text_here : slice_get (numbered_texts texts ordered) place ≡ Some (text_at texts here)
-    text_here = slice_get-map (text_at texts) ordered place
-        ∙ ap (option_map (text_at texts)) (slice_get-get_or ordered place nothing within)
+    pub text_here : slice_get (numbered_texts texts ordered) index ≡ Some (text_at texts here)
+    text_here = slice_get-map (text_at texts) ordered index
+        ∙ ap (option_map (text_at texts)) (slice_get-get_or ordered index nothing within)
 
     text_known : slice_get texts here.number ≡ Some (text_at texts here)
     text_known = slice_get-get_or texts here.number [] number_within
 
     pub put_again : (put : List (List ℕ))
-        → put ≡ different (take place (numbered_texts texts ordered)) → 0 < place
-        → slice_get (numbered_texts texts ordered) (place - 1)
-        ≡ slice_get (numbered_texts texts ordered) place
-        → put ≡ different (take (place + 1) (numbered_texts texts ordered))
+        → put ≡ different (take index (numbered_texts texts ordered)) → 0 < index
+        → slice_get (numbered_texts texts ordered) (index - 1)
+        ≡ slice_get (numbered_texts texts ordered) index
+        → put ≡ different (take (index + 1) (numbered_texts texts ordered))
     put_again put is some same =
-        is ∙ sym (different_again (numbered_texts texts ordered) place (text_at texts here)
+        is ∙ sym (different_again (numbered_texts texts ordered) index (text_at texts here)
         text_here some
         same)
 
     pub put_new : (old new : List (List ℕ))
-        → old ≡ different (take place (numbered_texts texts ordered))
-        → ((0 < place)
-        × (slice_get (numbered_texts texts ordered) (place - 1)
-        ≡ slice_get (numbered_texts texts ordered) place)
-        → ⊥)
+        → old ≡ different (take index (numbered_texts texts ordered))
+        → ((0 < index) × (slice_get (numbered_texts texts ordered) (index - 1)
+        ≡ slice_get (numbered_texts texts ordered) index) → ⊥)
         → new ≡ old ++ text_at texts here ∷ []
-        → new ≡ different (take (place + 1) (numbered_texts texts ordered))
+        → new ≡ different (take (index + 1) (numbered_texts texts ordered))
     put_new old new is other pushed = pushed ∙ (λ i. is i ++ text_at texts here ∷ [])
-        ∙ sym (different_new (numbered_texts texts ordered) place (text_at texts here) text_here
+        ∙ sym (different_new (numbered_texts texts ordered) index (text_at texts here) text_here
         other)
 
     pub code_here : (put : List (List ℕ))
-        → put ≡ different (take (place + 1) (numbered_texts texts ordered))
-        → slice_get put (length put - 1) ≡ slice_get (numbered_texts texts ordered) place
+        → put ≡ different (take (index + 1) (numbered_texts texts ordered))
+        → slice_get put (length put - 1) ≡ slice_get (numbered_texts texts ordered) index
     code_here put is =
-        stands_last (numbered_texts texts ordered) place (text_at texts here) text_here put is
+        stands_last (numbered_texts texts ordered) index (text_at texts here) text_here put is
 
     pub some_put : (put : List (List ℕ))
-        → put ≡ different (take (place + 1) (numbered_texts texts ordered)) → 0 < length put
+        → put ≡ different (take (index + 1) (numbered_texts texts ordered)) → 0 < length put
     some_put put is =
         let last = slice_get_within put (length put - 1) (text_at texts here)
         (code_here put is ∙ text_here) in
@@ -175,24 +169,24 @@ module _ (texts : List (List ℕ)) (ordered : List Numbered)
     module _ (old new : List (List ℕ)) (codes : List ℕ) (code : ℕ)
         (room : here.number < length codes)
         (kept : (n : ℕ) (text : List ℕ) → slice_get old n ≡ Some text → slice_get new n ≡ Some text)
-        (put : slice_get new code ≡ slice_get (numbered_texts texts ordered) place) where
+        (put : slice_get new code ≡ slice_get (numbered_texts texts ordered) index) where
       stands : slice_get new code ≡ slice_get texts here.number
       stands = put ∙ text_here ∙ sym text_known
 
-      pub lead_more : LeadTo old codes texts (take place ordered)
-          → LeadTo new (set codes here.number code) texts (take (place + 1) ordered)
+      pub lead_more : LeadTo old codes texts (take index ordered)
+          → LeadTo new (set codes here.number code) texts (take (index + 1) ordered)
       lead_more lead = All-more
           (λ (e : Numbered). slice_get new (get_or (set codes here.number code) e.number 0)
-          ≡ slice_get texts e.number) ordered place nothing within earlier
+          ≡ slice_get texts e.number) ordered index nothing within earlier
           (ap (slice_get new) (get_or-set_same codes here.number code 0 room) ∙ stands)
         where
-          earlier : (k : ℕ) (d : Numbered) → k < length (take place ordered) → slice_get new
-              (get_or (set codes here.number code) (get_or (take place ordered) k d).number 0)
-              ≡ slice_get texts (get_or (take place ordered) k d).number
+          earlier : (k : ℕ) (d : Numbered) → k < length (take index ordered) → slice_get new
+              (get_or (set codes here.number code) (get_or (take index ordered) k d).number 0)
+              ≡ slice_get texts (get_or (take index ordered) k d).number
           earlier k d h =
-              let e = get_or (take place ordered) k d in
-              let few : k < place = let is = length-take place ordered in omega (arith, h, is) in
-              let is : e ≡ get_or ordered k d = get_or-take place ordered k d few in
+              let e = get_or (take index ordered) k d in
+              let few : k < index = let is = length-take index ordered in omega (arith, h, is) in
+              let is : e ≡ get_or ordered k d = get_or-take index ordered k d few in
               let inside : e.number < length texts =
               subst (λ (x : Numbered). x.number < length texts) (sym is)
               (order.within k d (omega (arith, few, within))) in

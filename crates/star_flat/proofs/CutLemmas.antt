@@ -1,7 +1,5 @@
 -- Texts one after another.
-use Rattle.std.proofs.Common.{◌≡◌, ℕ, zero, suc, ◌+◌, ◌-◌, ◌<◌, ◌≤◌, List, [], ◌∷◌, ◌++◌, Some, take, drop, length, get_or, slice_get, slice_range, ap, ◌∙◌, refl, arith, length-drop}
-use Rattle.std.proofs.{Math.Seq.drop-append_seam, Math.Seq.take-length, lemmas.List.get_or_default, lemmas.List.take-append-le, lemmas.List.drop-append-le}
-use Rattle.std.specs.List.{All}
+use Rattle.std.{proofs.Common.{◌≡◌, ℕ, zero, suc, ◌+◌, ◌-◌, ◌<◌, ◌≤◌, List, [], ◌∷◌, ◌++◌, Some, take, drop, length, get_or, slice_get, slice_range, ap, ◌∙◌, refl, arith, length-drop}, proofs.Math.Seq.{drop-append_seam, take-length}, proofs.lemmas.List.{get_or_default, take-append-le, drop-append-le}, specs.List.All}
 use Rattle.star_flat.specs.Private.Cut.{texts_from, IsCut, text_start}
 
 pub length-texts_from : (s : ℕ) (b es : List ℕ) → length (texts_from s b es) ≡ length es

@@ -1,9 +1,6 @@
 -- The different ones of texts that are put one by one.
-use Rattle.std.proofs.Common.{◌≡◌, ◌≢◌, ℕ, ◌+◌, ◌-◌, ◌<◌, true, false, cond, List, [], ◌∷◌, ◌++◌, Some, length, get_or, take, refl, sym, ap, ◌∙◌, inl, inr, arith}
-use Rattle.std.proofs.{lemmas.Bool.cases_Bool, lemmas.List.get_or-take, lemmas.List.length_push, lemmas.List.length-take-le, lemmas.List.take_more, lemmas.Option.slice_get-get_or, lemmas.Option.slice_get_within, lemmas.Option.get_or_from_slice_get}
-use Rattle.std.specs.{Cmp.Lexicographic.bytes_decides, List.dedup_from, List.slice_get}
-use Rattle.star_flat.specs.Private.Codes.{different, same_text}
-use Rattle.star_flat.proofs.Pushed.{pushed_here}
+use Rattle.std.{proofs.Common.{◌≡◌, ◌≢◌, ℕ, ◌+◌, ◌-◌, ◌<◌, true, false, cond, List, [], ◌∷◌, ◌++◌, Some, length, get_or, take, refl, sym, ap, ◌∙◌, inl, inr, arith}, proofs.lemmas.Bool.cases_Bool, proofs.lemmas.List.{get_or-take, length_push, length-take-le, take_more}, proofs.lemmas.Option.{slice_get-get_or, slice_get_within, get_or_from_slice_get}, specs.Cmp.Lexicographic.bytes_decides, specs.List.{dedup_from, slice_get}}
+use Rattle.star_flat.{specs.Private.Codes.{different, same_text}, proofs.Pushed.pushed_here}
 
 abbrev from : List ℕ → List (List ℕ) → List (List ℕ)
 from t ts = dedup_from same_text t ts
@@ -82,8 +79,8 @@ put_again : (xs : List (List ℕ)) (u : List ℕ) (n : ℕ) → length xs ≡ n 
     → different (xs ++ u ∷ []) ≡ different xs
 put_again [] u n len is = absurd (omega (arith, len))
 put_again (t ∷ ts) u n len is =
-    let place : length ts ≡ n = omega (arith, len) in
-    again_behind t ts u (sym is ∙ ap (λ k. get_or (t ∷ ts) k []) (sym place) ∙ get_last t ts [])
+    let index : length ts ≡ n = omega (arith, len) in
+    again_behind t ts u (sym is ∙ ap (λ k. get_or (t ∷ ts) k []) (sym index) ∙ get_last t ts [])
 
 put_new : (xs : List (List ℕ)) (u : List ℕ) → ((n : ℕ) → length xs ≡ n + 1 → get_or xs n [] ≢ u)
     → different (xs ++ u ∷ []) ≡ different xs ++ u ∷ []
@@ -91,40 +88,40 @@ put_new [] u differ = refl
 put_new (t ∷ ts) u differ = new_behind t ts u
     (λ is. differ (length ts) (omega arith) (get_last t ts [] ∙ sym is))
 
--- ---- the text at a place of a list, behind those before it
-module _ (texts : List (List ℕ)) (place : ℕ) (text : List ℕ)
-    (at : slice_get texts place ≡ Some text) where
-  within : place < length texts
-  within = slice_get_within texts place text at
+-- ---- the text at a position of a list, behind those before it
+module _ (texts : List (List ℕ)) (index : ℕ) (text : List ℕ)
+    (at : slice_get texts index ≡ Some text) where
+  within : index < length texts
+  within = slice_get_within texts index text at
 
-  pub one_more : take (place + 1) texts ≡ take place texts ++ text ∷ []
-  one_more = take_more texts place [] within
-      ∙ ap (λ t. take place texts ++ t ∷ []) (get_or_from_slice_get texts place text [] at)
+  pub one_more : take (index + 1) texts ≡ take index texts ++ text ∷ []
+  one_more = take_more texts index [] within
+      ∙ ap (λ t. take index texts ++ t ∷ []) (get_or_from_slice_get texts index text [] at)
 
-  count : length (take place texts) ≡ place
-  count = let all = within in length-take-le place texts (omega (arith, all))
+  count : length (take index texts) ≡ index
+  count = let all = within in length-take-le index texts (omega (arith, all))
 
-  -- the text at the place before
-  before : (n : ℕ) → length (take place texts) ≡ n + 1
-      → (n < length texts) × (place - 1 ≡ n) × (get_or (take place texts) n [] ≡ get_or texts n [])
+  -- the text at the position before
+  before : (n : ℕ) → length (take index texts) ≡ n + 1
+      → (n < length texts) × (index - 1 ≡ n) × (get_or (take index texts) n [] ≡ get_or texts n [])
   before n len = grind (arith, within, count, get_or-take)
 
   -- a text that the one before equals is not put
-  pub different_again : 0 < place → slice_get texts (place - 1) ≡ slice_get texts place
-      → different (take (place + 1) texts) ≡ different (take place texts)
+  pub different_again : 0 < index → slice_get texts (index - 1) ≡ slice_get texts index
+      → different (take (index + 1) texts) ≡ different (take index texts)
   different_again some equal =
       let is = count in
-      let len : length (take place texts) ≡ place - 1 + 1 = omega (arith, is, some) in
-      let earlier = before (place - 1) len in
-      let same_text : get_or (take place texts) (place - 1) [] ≡ text =
-      earlier.2 ∙ get_or_from_slice_get texts (place - 1) text [] (equal ∙ at) in
-      ap different one_more ∙ put_again (take place texts) text (place - 1) len same_text
+      let len : length (take index texts) ≡ index - 1 + 1 = omega (arith, is, some) in
+      let earlier = before (index - 1) len in
+      let same_text : get_or (take index texts) (index - 1) [] ≡ text =
+      earlier.2 ∙ get_or_from_slice_get texts (index - 1) text [] (equal ∙ at) in
+      ap different one_more ∙ put_again (take index texts) text (index - 1) len same_text
 
   -- and another is put
-  pub different_new : ((0 < place) × (slice_get texts (place - 1) ≡ slice_get texts place) → ⊥)
-      → different (take (place + 1) texts) ≡ different (take place texts) ++ text ∷ []
+  pub different_new : ((0 < index) × (slice_get texts (index - 1) ≡ slice_get texts index) → ⊥)
+      → different (take (index + 1) texts) ≡ different (take index texts) ++ text ∷ []
   different_new new = ap different one_more
-      ∙ put_new (take place texts) text (λ n len is.
+      ∙ put_new (take index texts) text (λ n len is.
       let earlier = before n len in
       let counted = count in
       new (
@@ -134,8 +131,8 @@ module _ (texts : List (List ℕ)) (place : ℕ) (text : List ℕ)
       ))
 
   -- the text stands last among the different ones
-  pub stands_last : (put : List (List ℕ)) → put ≡ different (take (place + 1) texts)
-      → slice_get put (length put - 1) ≡ slice_get texts place
+  pub stands_last : (put : List (List ℕ)) → put ≡ different (take (index + 1) texts)
+      → slice_get put (length put - 1) ≡ slice_get texts index
   stands_last put is =
       let ends = is ∙ ap different one_more in
-      (λ i. slice_get (ends i) (length (ends i) - 1)) ∙ ends_put (take place texts) text ∙ sym at
+      (λ i. slice_get (ends i) (length (ends i) - 1)) ∙ ends_put (take index texts) text ∙ sym at

@@ -1,28 +1,25 @@
 -- Ends of texts by the starts of their blocks.
-use Rattle.std.proofs.Common.{◌≡◌, ℕ, ◌+◌, ◌/◌, ◌-◌, ◌^◌, ◌<◌, ◌≤◌, ◌⊎◌, List, [], ◌∷◌, ◌++◌, Some, length, get_or, sym, ap, ◌∙◌, refl, ⊎_elim, arith, zero-add}
-use Rattle.std.proofs.{lemmas.List.ext_get_or, lemmas.List.get_or-map, lemmas.List.get_or_append_left, lemmas.List.length-map, lemmas.List.length_push, lemmas.Bool.cases_lt, lemmas.List.FromFn.get_or-range_with_len, lemmas.List.FromFn.length-range_with_len, lemmas.Option.get_or_from_slice_get, lemmas.Option.slice_get-get_or, lemmas.Option.slice_get_within}
-use Rattle.std.specs.List.{All, range_with_len, slice_get}
-use Rattle.star_flat.specs.Private.Ends.{end_of, ends_of}
-use Rattle.star_flat.proofs.Pushed.{pushed_here}
+use Rattle.std.{proofs.Common.{◌≡◌, ℕ, ◌+◌, ◌/◌, ◌-◌, ◌^◌, ◌<◌, ◌≤◌, ◌⊎◌, List, [], ◌∷◌, ◌++◌, Some, length, get_or, sym, ap, ◌∙◌, refl, ⊎_elim, arith, zero-add}, proofs.lemmas.List.{ext_get_or, get_or-map, get_or_append_left, length-map, length_push}, proofs.lemmas.Bool.cases_lt, proofs.lemmas.List.FromFn.{get_or-range_with_len, length-range_with_len}, proofs.lemmas.Option.{get_or_from_slice_get, slice_get-get_or, slice_get_within}, specs.List.{All, range_with_len, slice_get}}
+use Rattle.star_flat.{specs.Private.Ends.{end_of, ends_of}, proofs.Pushed.pushed_here}
 
 pub length-ends_of : (starts offsets : List ℕ) → length (ends_of starts offsets) ≡ length offsets
 unfolding ends_of
 length-ends_of starts offsets = grind (arith, length-map, length-range_with_len)
 
-pub end_there : (starts offsets : List ℕ) (place d : ℕ) → place < length offsets
-    → get_or (ends_of starts offsets) place d ≡ end_of starts offsets place
+pub end_there : (starts offsets : List ℕ) (index d : ℕ) → index < length offsets
+    → get_or (ends_of starts offsets) index d ≡ end_of starts offsets index
 unfolding ends_of
-end_there starts offsets place d h =
-    get_or-map (end_of starts offsets) (range_with_len 0 (length offsets)) place 0 d
+end_there starts offsets index d h =
+    get_or-map (end_of starts offsets) (range_with_len 0 (length offsets)) index 0 d
     (omega (arith, h, length-range_with_len 0 (length offsets)))
     ∙ ap (end_of starts offsets)
-    (get_or-range_with_len 0 (length offsets) place 0 h ∙ zero-add place)
+    (get_or-range_with_len 0 (length offsets) index 0 h ∙ zero-add index)
 
-pub end_got : (starts offsets : List ℕ) (place : ℕ) → place < length offsets
-    → slice_get (ends_of starts offsets) place ≡ Some (end_of starts offsets place)
-end_got starts offsets place h = slice_get-get_or (ends_of starts offsets) place 0
+pub end_got : (starts offsets : List ℕ) (index : ℕ) → index < length offsets
+    → slice_get (ends_of starts offsets) index ≡ Some (end_of starts offsets index)
+end_got starts offsets index h = slice_get-get_or (ends_of starts offsets) index 0
     (omega (arith, h, length-ends_of starts offsets))
-    ∙ ap Some (end_there starts offsets place 0 h)
+    ∙ ap Some (end_there starts offsets index 0 h)
 
 pub no_ends : (starts : List ℕ) → ends_of starts [] ≡ []
 unfolding ends_of
@@ -30,8 +27,8 @@ no_ends starts = refl
 
 -- ends stay where the starts of their blocks do
 pub same_ends : (starts others offsets : List ℕ)
-    → ((place : ℕ) → place < length offsets
-    → get_or starts (place / 16) 0 ≡ get_or others (place / 16) 0)
+    → ((index : ℕ) → index < length offsets
+    → get_or starts (index / 16) 0 ≡ get_or others (index / 16) 0)
     → ends_of starts offsets ≡ ends_of others offsets
 same_ends starts others offsets same =
     ext_get_or 0 (ends_of starts offsets) (ends_of others offsets)
@@ -83,26 +80,25 @@ module _ (starts offsets : List ℕ) (offset : ℕ) where
 
 -- ---- what is read
 module _ (starts offsets : List ℕ) (bounded : All (λ e. e < 2 ^ 64) (ends_of starts offsets)) where
-  pub end_fits : (place offset : ℕ) → slice_get offsets place ≡ Some offset
-      → get_or starts (place / 16) 0 + offset < 2 ^ 64
-  end_fits place offset at =
-      let within = slice_get_within offsets place offset at in
-      let there = bounded place 0 (omega (arith, within, length-ends_of starts offsets)) in
-      let is = end_there starts offsets place 0 within in
-      let same = get_or_from_slice_get offsets place offset 0 at in
+  pub end_fits : (index offset : ℕ) → slice_get offsets index ≡ Some offset
+      → get_or starts (index / 16) 0 + offset < 2 ^ 64
+  end_fits index offset at =
+      let within = slice_get_within offsets index offset at in
+      let there = bounded index 0 (omega (arith, within, length-ends_of starts offsets)) in
+      let is = end_there starts offsets index 0 within in
+      let same = get_or_from_slice_get offsets index offset 0 at in
       omega (arith, there, is, same)
 
-  pub end_read : (place offset : ℕ) → slice_get offsets place ≡ Some offset
-      → slice_get (ends_of starts offsets) place ≡ Some (get_or starts (place / 16) 0 + offset)
-  end_read place offset at = end_got starts offsets place (slice_get_within offsets place offset at)
-      ∙ ap (λ o. Some (get_or starts (place / 16) 0 + o))
-      (get_or_from_slice_get offsets place offset 0 at)
+  pub end_read : (index offset : ℕ) → slice_get offsets index ≡ Some offset
+      → slice_get (ends_of starts offsets) index ≡ Some (get_or starts (index / 16) 0 + offset)
+  end_read index offset at = end_got starts offsets index (slice_get_within offsets index offset at)
+      ∙ ap (λ o. Some (get_or starts (index / 16) 0 + o))
+      (get_or_from_slice_get offsets index offset 0 at)
 
 -- ---- the end of a text is no earlier than the start of its block
 pub from_upto : (starts offsets : List ℕ) (start from end : ℕ) → start ≤ end
     → All (λ e. e ≤ end) (ends_of starts offsets)
-    → (from ≡ start) ⊎ ((0 < length offsets)
-    × (get_or starts ((length offsets - 1) / 16) 0 ≡ from))
+    → (from ≡ start) ⊎ ((0 < length offsets) × (get_or starts ((length offsets - 1) / 16) 0 ≡ from))
     → from ≤ end
 from_upto starts offsets start from end h after kept = ⊎_elim {C = from ≤ end}
     (λ own. omega (arith, own, h))
@@ -115,8 +111,8 @@ from_upto starts offsets start from end h after kept = ⊎_elim {C = from ≤ en
 
 -- ---- one more end from the start of its block
 module _ (old new offsets : List ℕ) (from end : ℕ)
-    (same : (place : ℕ) → place < length offsets
-    → get_or new (place / 16) 0 ≡ get_or old (place / 16) 0)
+    (same : (index : ℕ) → index < length offsets
+    → get_or new (index / 16) 0 ≡ get_or old (index / 16) 0)
     (found : get_or new (length offsets / 16) 0 ≡ from) (upto : from ≤ end) where
   pub end_pushed : ends_of new (offsets ++ (end - from) ∷ []) ≡ ends_of old offsets ++ end ∷ []
   end_pushed =

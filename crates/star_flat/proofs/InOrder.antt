@@ -1,9 +1,6 @@
 -- Texts by their keys, sorted.
-use Rattle.std.proofs.Common.{◌≡◌, ℕ, ◌+◌, ◌<◌, List, length, get_or, map, sym, ap, ◌∙◌, arith, subst, zero-add}
-use Rattle.std.proofs.{lemmas.List.get_or-map, lemmas.List.length-map, lemmas.List.Elements.All-get_or, lemmas.List.Elements.All-map, lemmas.List.FromFn.get_or-range_with_len, lemmas.List.FromFn.length-range_with_len, lemmas.List.Sorted.All-permutation, lemmas.List.Sorted.Contains-permutation, lemmas.List.Sorted.IsPermutation-map, lemmas.List.Sorted.length_permutation, lemmas.Simd.map-map}
-use Rattle.std.specs.{List.All, List.Contains, List.range_with_len, List.Sorted.IsSorted, List.Sorted.IsPermutation, Ordering.is_lt}
-use Rattle.star_flat.specs.{Private.Order.AreInTextOrder, Private.Order.IsKeyed, Private.Order.IsWhole, Private.Order.by_key, Private.Order.key_of, Private.Order.numbered_texts, Private.Order.text_at, Private.Order.text_cmp, declared.ordered.Numbered.Numbered, declared.ordered.Whole.Whole}
-use Rattle.star_flat.proofs.{Enumerated.no_whole, Enumerated.nothing, Keys.as_texts, Keys.by_whole, Keys.up_by_text}
+use Rattle.std.{proofs.Common.{◌≡◌, ℕ, ◌+◌, ◌<◌, List, length, get_or, map, sym, ap, ◌∙◌, arith, subst, zero-add}, proofs.lemmas.List.{get_or-map, length-map}, proofs.lemmas.List.Elements.{All-get_or, All-map}, proofs.lemmas.List.FromFn.{get_or-range_with_len, length-range_with_len}, proofs.lemmas.List.Sorted.{All-permutation, Contains-permutation, IsPermutation-map, length_permutation}, proofs.lemmas.Simd.map-map, specs.List.{All, Contains, range_with_len}, specs.List.Sorted.{IsSorted, IsPermutation}, specs.Ordering.is_lt}
+use Rattle.star_flat.{specs.Private.Order.{AreInTextOrder, IsKeyed, IsWhole, by_key, key_of, numbered_texts, text_at, text_cmp}, specs.declared.ordered.Numbered.Numbered, specs.declared.ordered.Whole.Whole, proofs.Enumerated.{no_whole, nothing}, proofs.Keys.{as_texts, by_whole, up_by_text}}
 
 abbrev pub number_of : Numbered → ℕ
 number_of e = e.number
@@ -11,31 +8,31 @@ number_of e = e.number
 abbrev pub whole_number : Whole → ℕ
 whole_number e = e.number
 
-place_within : (texts : List (List ℕ))
+index_within : (texts : List (List ℕ))
     → All (λ n. n < length texts) (range_with_len 0 (length texts))
-place_within texts k d within =
+index_within texts k d within =
     grind (arith, length-range_with_len, get_or-range_with_len, zero-add)
 
--- keys in the order of their texts, with each place as one's number
+-- keys in the order of their texts, with each position as one's number
 module _ (texts : List (List ℕ)) (ordered : List Numbered)
     (each : IsPermutation (range_with_len 0 (length texts)) (map number_of ordered))
     (keyed : All (IsKeyed texts) ordered)
     (sorted : IsSorted text_cmp (numbered_texts texts ordered)) where
-  abbrev places : List ℕ
-  places = range_with_len 0 (length texts)
+  abbrev indexes : List ℕ
+  indexes = range_with_len 0 (length texts)
 
   count : length ordered ≡ length texts
   count = grind (arith, length-map, length_permutation, length-range_with_len)
 
   each_within : All (λ e. e.number < length texts) ordered
   each_within k d within = subst (λ n. n < length texts) (get_or-map number_of ordered k d 0 within)
-      (All-permutation (λ n. n < length texts) places (map number_of ordered) each
-      (place_within texts) k 0
+      (All-permutation (λ n. n < length texts) indexes (map number_of ordered) each
+      (index_within texts) k 0
       (omega (arith, within, length-map ordered number_of)))
 
   each_number : (n : ℕ) → n < length texts → Contains (map number_of ordered) n
   each_number n within =
-      Contains-permutation places (map number_of ordered) n each (
+      Contains-permutation indexes (map number_of ordered) n each (
         n,
         omega (arith, within, length-range_with_len 0 (length texts)),
         get_or-range_with_len 0 (length texts) n n within ∙ zero-add n,

@@ -1,7 +1,5 @@
 -- The order of texts by their keys.
-use Rattle.std.proofs.Common.{◌≡◌, ℕ, zero, suc, ◌+◌, ◌*◌, ◌%◌, ◌<◌, ◌≤◌, ◌++◌, if◌then◌else◌, false, List, [], ◌∷◌, length, take, get_or, nat_cmp, refl, sym, ap, ◌∙◌, ⊎_elim, add-one, zero-add, arith}
-use Rattle.std.proofs.{lemmas.Bool.cases_lt, lemmas.Bool.le-ltb, lemmas.Bool.lt-ltb, lemmas.Cmp.nat_cmp_total, lemmas.Cmp.nat_list_cmp_total, lemmas.Cmp.on_total, lemmas.Cmp.then_total, lemmas.Grind.same_number_lists, lemmas.Nat.be_bytes_4, lemmas.Nat.be_bytes_8, lemmas.List.get_or-take, lemmas.List.get_or_past, lemmas.List.length-take-le}
-use Rattle.std.specs.{Cmp.nat_cmp_is, Cmp.IsTotalOrder, List.All, Ordering.is_lt, Ordering.ordering_then, Ordering.ordering_reverse, declared.cmp.Ordering.Ordering, declared.cmp.Ordering.TheVariants.Less, declared.cmp.Ordering.TheVariants.Equal, declared.cmp.Ordering.TheVariants.Greater, Int.to_be_bytes, Int.w32, Int.w64}
+use Rattle.std.{proofs.Common.{◌≡◌, ℕ, zero, suc, ◌+◌, ◌*◌, ◌%◌, ◌<◌, ◌≤◌, ◌++◌, if◌then◌else◌, false, List, [], ◌∷◌, length, take, get_or, nat_cmp, refl, sym, ap, ◌∙◌, ⊎_elim, add-one, zero-add, arith}, proofs.lemmas.Bool.{cases_lt, le-ltb, lt-ltb}, proofs.lemmas.Cmp.{nat_cmp_total, nat_list_cmp_total, on_total, then_total}, proofs.lemmas.Grind.same_number_lists, proofs.lemmas.Nat.{be_bytes_4, be_bytes_8}, proofs.lemmas.List.{get_or-take, get_or_past, length-take-le}, specs.Cmp.{nat_cmp_is, IsTotalOrder}, specs.List.All, specs.Ordering.{is_lt, ordering_then, ordering_reverse}, specs.declared.cmp.Ordering.Ordering, specs.declared.cmp.Ordering.TheVariants.{Less, Equal, Greater}, specs.Int.{to_be_bytes, w32, w64}}
 use Rattle.star_flat.specs.{Private.Order.IsKeyed, Private.Order.IsWhole, Private.Order.by_key, Private.Order.digits, Private.Order.ending, Private.Order.key_of, Private.Order.text_at, Private.Order.text_cmp, declared.ordered.Numbered.Numbered, declared.ordered.Whole.Whole}
 
 -- ---- numbers that compare
@@ -87,7 +85,7 @@ same_equal : (text : List ℕ) → text_cmp text text ≡ Equal
 same_equal [] = refl
 same_equal (x ∷ xs) = grind (arith, equal, same_equal xs)
 
--- ---- bytes of a text from a place on, with zeros after its end
+-- ---- bytes of a text from a position on, with zeros after its end
 padded : ℕ → ℕ → List ℕ → List ℕ
 padded zero i text = []
 padded (suc n) i text = get_or text i 0 ∷ padded n (suc i) text
@@ -103,11 +101,13 @@ byte_then : (text : List ℕ) → All (λ byte. byte < 256) text → (n i last :
     → (k : ℕ) → get_or (padded n i text ++ last ∷ []) k 0 < 256
 unfolding padded
 byte_then text bytes zero i last few zero = few
-byte_then text bytes zero i last few (suc k) = omega (arith, get_or_past {X = ℕ} [] k 0 (omega arith))
+byte_then text bytes zero i last few (suc k) =
+    omega (arith, get_or_past {X = ℕ} [] k 0 (omega arith))
 byte_then text bytes (suc n) i last few zero = byte_below text i bytes
 byte_then text bytes (suc n) i last few (suc k) = byte_then text bytes n (suc i) last few k
 
-padded_at : (text : List ℕ) (n i k : ℕ) → k < n → get_or (padded n i text) k 0 ≡ get_or text (i + k) 0
+padded_at : (text : List ℕ) (n i k : ℕ) → k < n
+    → get_or (padded n i text) k 0 ≡ get_or text (i + k) 0
 unfolding padded
 padded_at text zero i k within = absurd (omega (arith, within))
 padded_at text (suc n) i zero within = ap (λ m. get_or text m 0) (omega arith)
@@ -242,7 +242,12 @@ module _ (texts : List (List ℕ)) where
       ))
       (λ k within.
       let inside : k < e.second % 256 =
-      omega (arith, within, length-take-le (e.second % 256) (padded 11 0 x) (omega (arith, whole, long))) in
+      omega (
+        arith,
+        within,
+        length-take-le (e.second % 256) (padded 11 0 x)
+            (omega (arith, whole, long)),
+      ) in
       get_or-take (e.second % 256) (padded 11 0 x) k 0 inside
       ∙ padded_at x 11 0 k (omega (arith, inside, whole))
       ∙ ap (λ m. get_or x m 0) (zero-add k))
@@ -262,7 +267,8 @@ module _ (texts : List (List ℕ)) where
         below
 
     -- whatever comes last, if it compares texts whose fronts are one as they do
-    module _ (last : Ordering) (tells : a.first ≡ b.first → a.second ≡ b.second → last ≡ by_text) where
+    module _ (last : Ordering)
+        (tells : a.first ≡ b.first → a.second ≡ b.second → last ≡ by_text) where
       abbrev by_second : Ordering
       by_second = ordering_then (nat_cmp a.second b.second) last
 

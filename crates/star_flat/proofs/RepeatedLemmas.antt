@@ -1,8 +1,6 @@
--- Texts that are told by their places among other texts.
-use Rattle.std.proofs.Common.{◌≡◌, ℕ, zero, suc, ◌+◌, ◌<◌, List, [], ◌∷◌, ◌++◌, Some, length, get_or, map, take, refl, sym, ap, ◌∙◌, arith, length-append, subst, ⊎_elim}
-use Rattle.std.proofs.{lemmas.List.get_or_append_left, lemmas.List.get_or_default, lemmas.List.get_or_push, lemmas.List.get_or-map, lemmas.List.length-map, lemmas.List.map-append, lemmas.List.take_more, lemmas.List.Elements.All-get_or, lemmas.List.Elements.All-head, lemmas.List.Elements.All-map, lemmas.List.Elements.All-push, lemmas.List.Elements.All-tail, lemmas.List.Elements.All-weaker, lemmas.List.Elements.Contains-append_left, lemmas.List.Elements.Contains-push, lemmas.Bool.cases_eq, lemmas.Option.get_or_from_slice_get, lemmas.Option.slice_get_within, lemmas.Simd.map-map}
-use Rattle.std.specs.{Prelude.Result, Prelude.Ok, Prelude.Err, Prelude.IfOk, Prelude.OnErr, Prelude.OnOk, List.All, List.Contains, List.slice_get}
-use Rattle.star_flat.specs.{Repeated.AreRepeated, Repeated.texts_at_places, declared.met.Met.Met, Private.Met.IsMet}
+-- Texts that are told by their positions among other texts.
+use Rattle.std.{proofs.Common.{◌≡◌, ℕ, zero, suc, ◌+◌, ◌<◌, List, [], ◌∷◌, ◌++◌, Some, length, get_or, map, take, refl, sym, ap, ◌∙◌, arith, length-append, subst, ⊎_elim}, proofs.lemmas.List.{get_or_append_left, get_or_default, get_or_push, get_or-map, length-map, map-append, take_more}, proofs.lemmas.List.Elements.{All-get_or, All-head, All-map, All-push, All-tail, All-weaker, Contains-append_left, Contains-push}, proofs.lemmas.Bool.cases_eq, proofs.lemmas.Option.{get_or_from_slice_get, slice_get_within}, proofs.lemmas.Simd.map-map, specs.Prelude.{Result, Ok, Err, IfOk, OnErr, OnOk}, specs.List.{All, Contains, slice_get}}
+use Rattle.star_flat.specs.{Repeated.AreRepeated, Repeated.texts_at_indexes, declared.met.Met.Met, Private.Met.IsMet}
 
 -- what follows from what holds of each kind of answer
 pub either : {T E A B G : Type 0} (r : Result T E) → OnOk r A → OnErr r B → (A → G) → (B → G) → G
@@ -37,12 +35,12 @@ module _ (ts : List (List ℕ)) (ps : List ℕ) (repeated : AreRepeated ts ps) w
   }
 
   pub text_again : (p : ℕ) (t : List ℕ) → slice_get ts p ≡ Some t
-      → texts_at_places ts (ps ++ p ∷ []) ≡ texts_at_places ts ps ++ t ∷ []
+      → texts_at_indexes ts (ps ++ p ∷ []) ≡ texts_at_indexes ts ps ++ t ∷ []
   text_again p t there = grind (arith, map-append, get_or_from_slice_get)
 
 -- texts that are kept later change none
 same_texts : (ts us : List (List ℕ)) (ps : List ℕ) → All (λ p. p < length ts) ps
-    → texts_at_places (ts ++ us) ps ≡ texts_at_places ts ps
+    → texts_at_indexes (ts ++ us) ps ≡ texts_at_indexes ts ps
 same_texts ts us [] within = refl
 same_texts ts us (p ∷ ps) within =
     λ i. get_or_append_left ts us [] p (All-head (λ q. q < length ts) p ps within) i
@@ -67,22 +65,22 @@ module _ (ts : List (List ℕ)) (ps : List ℕ) (repeated : AreRepeated ts ps) (
     few = omega (arith, repeated.few, more, length-append ps (length ts ∷ []));
   }
 
-  pub text_anew : texts_at_places (ts ++ t ∷ []) (ps ++ length ts ∷ [])
-      ≡ texts_at_places ts ps ++ t ∷ []
+  pub text_anew : texts_at_indexes (ts ++ t ∷ []) (ps ++ length ts ∷ [])
+      ≡ texts_at_indexes ts ps ++ t ∷ []
   text_anew = grind (arith, map-append, same_texts, get_or_push)
 
--- the place of one more row
-pub places_more : (f : ℕ → ℕ) (ps : List ℕ) (row p : ℕ) (old new : List ℕ)
+-- the position of one more row
+pub indexes_more : (f : ℕ → ℕ) (ps : List ℕ) (row p : ℕ) (old new : List ℕ)
     → slice_get ps row ≡ Some p → old ≡ map f (take row ps) → new ≡ old ++ f p ∷ []
     → new ≡ map f (take (row + 1) ps)
-places_more f ps row p old new at so_far pushed = pushed ∙ ap (λ xs. xs ++ f p ∷ []) so_far
+indexes_more f ps row p old new at so_far pushed = pushed ∙ ap (λ xs. xs ++ f p ∷ []) so_far
     ∙ sym (ap (map f) (take_more ps row p (slice_get_within ps row p at))
     ∙ map-append f (take row ps) (get_or ps row p ∷ [])
     ∙ ap (λ q. map f (take row ps) ++ f q ∷ []) (get_or_from_slice_get ps row p p at))
 
--- places of places: of rows among some texts, and of these among different ones
+-- positions of positions: of rows among some texts, and of these among different ones
 module _ (ts ds : List (List ℕ)) (ps ns : List ℕ) (repeated : AreRepeated ts ps)
-    (coded : AreRepeated ds ns) (same : texts_at_places ds ns ≡ ts) where
+    (coded : AreRepeated ds ns) (same : texts_at_indexes ds ns ≡ ts) where
   pub count : length ns ≡ length ts
   count = sym (length-map ns (λ n. get_or ds n [])) ∙ ap length same
 
@@ -100,8 +98,8 @@ module _ (ts ds : List (List ℕ)) (ps ns : List ℕ) (repeated : AreRepeated ts
             ∙ sym (get_or_default ns there.0 d 0 there.1) ∙ there.2,
       )
 
-  pub places_coded : AreRepeated ds (map (λ p. get_or ns p 0) ps)
-  places_coded = record {
+  pub indexes_coded : AreRepeated ds (map (λ p. get_or ns p 0) ps)
+  indexes_coded = record {
     within = All-map (λ n. n < length ds) (λ p. get_or ns p 0) ps
         (All-weaker (λ p. p < length ts) (λ p. get_or ns p 0 < length ds)
         (λ p h. All-get_or (λ n. n < length ds) ns p 0 (omega (arith, h, count)) coded.within)
@@ -116,7 +114,7 @@ module _ (ts ds : List (List ℕ)) (ps ns : List ℕ) (repeated : AreRepeated ts
     );
   }
 
-  pub texts_of_coded : texts_at_places ds (map (λ p. get_or ns p 0) ps) ≡ texts_at_places ts ps
+  pub texts_of_coded : texts_at_indexes ds (map (λ p. get_or ns p 0) ps) ≡ texts_at_indexes ts ps
   texts_of_coded = map-map (λ n. get_or ds n []) (λ p. get_or ns p 0) ps ∙ agree ps repeated.within
     where
       agree : (qs : List ℕ) → All (λ p. p < length ts) qs
@@ -125,14 +123,14 @@ module _ (ts ds : List (List ℕ)) (ps ns : List ℕ) (repeated : AreRepeated ts
       agree (q ∷ qs) within = λ i. same_text q (All-head (λ p. p < length ts) q qs within) i
           ∷ agree qs (All-tail (λ p. p < length ts) q qs within) i
 
-  pub places_read : All (λ p. p < length ns) ps
-  places_read = grind (arith, count)
+  pub indexes_read : All (λ p. p < length ns) ps
+  indexes_read = grind (arith, count)
 
 -- a short text that is remembered is still kept where one more text is
 pub met_more : (ts : List (List ℕ)) (t : List ℕ) (met : List Met) → All (IsMet ts) met
     → All (IsMet (ts ++ t ∷ [])) met
 met_more ts t met h = All-weaker (IsMet ts) (IsMet (ts ++ t ∷ []))
-    (λ m is few. still ts m.place (take m.len m.bytes) (is few)) met h
+    (λ m is few. still ts m.index (take m.len m.bytes) (is few)) met h
   where
     still : (us : List (List ℕ)) (p : ℕ) (x : List ℕ) → slice_get us p ≡ Some x
         → slice_get (us ++ t ∷ []) p ≡ Some x

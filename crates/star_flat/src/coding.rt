@@ -1,9 +1,8 @@
-// From texts to their codes: they are put in order, each different one is put once, and its place
+// From texts to their codes: they are put in order, each different one is put once, and its position
 // there is the code of all that equal it.
 
-ghost use Rattle.std.specs.Prelude.{◌≡◌, ◌↔◌, ◌-◌, ◌+◌, ◌<◌, ◌≤◌, ◌^◌, ℕ, List, All, IfOk, IsTrue, OnOk, Some, length, slice_get, take};
-ghost use Rattle.std.specs.{Cmp.Lexicographic.slice_cmp, List.Sorted.IsStrictlySortedBy, Ordering.nat_cmp};
-ghost use Rattle.star_flat.specs.{Repeated.AreRepeated, Repeated.texts_at_places, Private.Order.AreInTextOrder, Private.Order.IsKeyed, Private.Order.numbered_texts, Private.Codes.LeadTo, Private.Codes.different};
+ghost use Rattle.std.specs.{Prelude.{◌≡◌, ◌↔◌, ◌-◌, ◌+◌, ◌<◌, ◌≤◌, ◌^◌, ℕ, List, All, IfOk, IsTrue, OnOk, Some, length, slice_get, take}, Cmp.Lexicographic.slice_cmp, List.Sorted.IsStrictlySortedBy, Ordering.nat_cmp};
+ghost use Rattle.star_flat.specs.{Repeated.AreRepeated, Repeated.texts_at_indexes, Private.Order.AreInTextOrder, Private.Order.IsKeyed, Private.Order.numbered_texts, Private.Codes.LeadTo, Private.Codes.different};
 
 use crate::ordered::{Numbered, in_order};
 use crate::pages::release;
@@ -11,12 +10,12 @@ use crate::texts::FlatTexts;
 use std::alloc::{AllocError, Global};
 
 impl FlatTexts {
-    /// The different ones of these texts in the order of their bytes, and for each text its place
+    /// The different ones of these texts in the order of their bytes, and for each text its position
     /// among them.
     pub fn coded(&self, alloc: Global) -> Result<(FlatTexts, Vec<u32>), AllocError>
         requires { length self.now < 2 ^ 32 }
         ensures sorted { IfOk result (λ coded. IsStrictlySortedBy (slice_cmp nat_cmp) coded.0) }
-        ensures texts { IfOk result (λ coded. texts_at_places coded.0 coded.1.items ≡ self.now) }
+        ensures texts { IfOk result (λ coded. texts_at_indexes coded.0 coded.1.items ≡ self.now) }
         ensures repeated { IfOk result (λ coded. AreRepeated coded.0 coded.1.items) }
     {
         let ordered = in_order(alloc, self)?;
@@ -42,47 +41,46 @@ fn code_ordered(
 {
     let mut put = FlatTexts::new(alloc);
     let mut codes = vec![in alloc; 0; ordered.len()]?;
-    for (place, numbered) in ordered.iter().enumerate() {
-        codes[numbered.number as usize] = put_next(&mut put, texts, ordered, place)?;
+    for (index, numbered) in ordered.iter().enumerate() {
+        codes[numbered.number as usize] = put_next(&mut put, texts, ordered, index)?;
     }
     Ok((put, codes))
 }
 
-/// Whether the text at a place is the one before it.
-fn repeats(texts: &FlatTexts, ordered: &[Numbered], place: usize) -> bool
-    requires within { place < length ordered.now }
+/// Whether the text at a position is the one before it.
+fn repeats(texts: &FlatTexts, ordered: &[Numbered], index: usize) -> bool
+    requires within { index < length ordered.now }
     requires keyed { All (IsKeyed texts.now) ordered.now }
-    ensures { IsTrue result
-        ↔ ((0 < place)
-        × (slice_get (numbered_texts texts.now ordered.now) (place - 1)
-        ≡ slice_get (numbered_texts texts.now ordered.now) place)) }
+    ensures { IsTrue result ↔ ((0 < index)
+        × (slice_get (numbered_texts texts.now ordered.now) (index - 1)
+        ≡ slice_get (numbered_texts texts.now ordered.now) index)) }
 {
-    place > 0 && ordered[place - 1].is_of_text(texts, ordered[place])
+    index > 0 && ordered[index - 1].is_of_text(texts, ordered[index])
 }
 
-/// Puts the text at a place after those of the places before, unless it repeats the last of them,
+/// Puts the text at a position after those of the positions before, unless it repeats the last of them,
 /// and answers its code.
 fn put_next(
     put: &mut FlatTexts,
     texts: &FlatTexts,
     ordered: &[Numbered],
-    place: usize,
+    index: usize,
 ) -> Result<u32, AllocError>
-    requires within { place < length ordered.now }
+    requires within { index < length ordered.now }
     requires few { length texts.now < 2 ^ 32 }
     requires ordered { AreInTextOrder texts.now ordered.now }
-    requires put { put.old ≡ different (take place (numbered_texts texts.now ordered.now)) }
-    requires no_more { length put.old ≤ place }
+    requires put { put.old ≡ different (take index (numbered_texts texts.now ordered.now)) }
+    requires no_more { length put.old ≤ index }
     ensures put { OnOk result
-        (put.new ≡ different (take (place + 1) (numbered_texts texts.now ordered.now))) }
-    ensures no_more { OnOk result (length put.new ≤ place + 1) }
+        (put.new ≡ different (take (index + 1) (numbered_texts texts.now ordered.now))) }
+    ensures no_more { OnOk result (length put.new ≤ index + 1) }
     ensures kept { OnOk result ((code : ℕ) (text : List ℕ) → slice_get put.old code ≡ Some text
         → slice_get put.new code ≡ Some text) }
     ensures code { IfOk result (λ code. slice_get put.new code
-        ≡ slice_get (numbered_texts texts.now ordered.now) place) }
+        ≡ slice_get (numbered_texts texts.now ordered.now) index) }
 {
-    if !repeats(texts, ordered, place) {
-        ordered[place].put_text(texts, put)?;
+    if !repeats(texts, ordered, index) {
+        ordered[index].put_text(texts, put)?;
     }
     Ok((put.len() - 1) as u32)
 }

@@ -2,7 +2,7 @@
 
 ghost use Rattle.std.specs.Prelude.{◌≡◌, ◌<◌, ◌≤◌, ◌+◌, ◌-◌, ◌*◌, ◌/◌, ◌^◌, ◌++◌, ◌∷◌, ◌⊎◌, [], ℕ, All, IfOk, OnErr, OnOk, Some, length, slice_get, slice_index, take};
 
-use crate::numbers::{FlatNumbers, place_at, push_place, two_places};
+use crate::numbers::{FlatNumbers, index_at, push_index, two_indexes};
 use crate::pages::release;
 use std::alloc::{AllocError, Global};
 use std::marker::Model;
@@ -22,25 +22,24 @@ pub(crate) struct Ends {
 
 impl Model for Ends {
     ghost use Rattle.std.specs.Prelude.{List, ℕ, All, ◌<◌, ◌≤◌, ◌*◌, ◌^◌, length};
-    ghost use Rattle.star_flat.specs.Private.Ends.{ends_of};
-    ghost use Rattle.star_flat.specs.Repeated.{places_in};
+    ghost use Rattle.star_flat.specs.{Private.Ends.ends_of, Repeated.indexes_in};
 
     ghost Value = { List ℕ };
 
-    ghost view = { λ ends. ends_of ends.starts.items (places_in ends.offsets) };
+    ghost view = { λ ends. ends_of ends.starts.items (indexes_in ends.offsets) };
 
     ghost invariant = { λ ends. (length ends.offsets ≤ length ends.starts.items * 16)
-        × All (λ e. e < 2 ^ 64) (ends_of ends.starts.items (places_in ends.offsets)) };
+        × All (λ e. e < 2 ^ 64) (ends_of ends.starts.items (indexes_in ends.offsets)) };
 }
 
-/// The end at a place, which lies `offset` bytes after the start of its block.
+/// The end at a position, which lies `offset` bytes after the start of its block.
 #[inline(always)]
-fn end_at(starts: &[usize], place: usize, offset: usize) -> usize
-    requires within { place < length starts.now * 16 }
-    requires fits { slice_index starts.now (place / 16) + offset < 2 ^ 64 }
-    ensures { result ≡ slice_index starts.now (place / 16) + offset }
+fn end_at(starts: &[usize], index: usize, offset: usize) -> usize
+    requires within { index < length starts.now * 16 }
+    requires fits { slice_index starts.now (index / 16) + offset < 2 ^ 64 }
+    ensures { result ≡ slice_index starts.now (index / 16) + offset }
 {
-    starts[place / BLOCK] + offset
+    starts[index / BLOCK] + offset
 }
 
 /// Puts the start of a block after the first `block` others. No more of them stay.
@@ -53,12 +52,11 @@ fn begin(starts: &mut Vec<usize>, block: usize, start: usize) -> Result<(), Allo
     Ok(())
 }
 
-/// The origin of the end after `count` others: the start of its own text if that
-/// begins a block.
+/// The origin of the end after `count` others: the start of its own text if that begins a block.
 fn start_for(starts: &mut Vec<usize>, count: usize, start: usize) -> Result<usize, AllocError>
     requires { count ≤ length starts.old.items * 16 }
-    ensures same { (place : ℕ) → place < count
-        → slice_index starts.new.items (place / 16) ≡ slice_index starts.old.items (place / 16) }
+    ensures same { (index : ℕ) → index < count
+        → slice_index starts.new.items (index / 16) ≡ slice_index starts.old.items (index / 16) }
     ensures room { count ≤ length starts.new.items * 16 }
     ensures more { IfOk result (λ from. count < length starts.new.items * 16) }
     ensures from { IfOk result (λ from. slice_index starts.new.items (count / 16) ≡ from) }
@@ -91,29 +89,29 @@ impl Ends {
         self.offsets.len()
     }
 
-    /// The end at a place, from 0.
-    pub(crate) fn get(&self, place: usize) -> usize
-        requires { place < length self.now }
-        ensures { slice_get self.now place ≡ Some result }
+    /// The end at a position, from 0.
+    pub(crate) fn get(&self, index: usize) -> usize
+        requires { index < length self.now }
+        ensures { slice_get self.now index ≡ Some result }
     {
         end_at(
             self.starts.as_slice(),
-            place,
-            place_at(&self.offsets, place),
+            index,
+            index_at(&self.offsets, index),
         )
     }
 
-    /// The end before the one at a place, which isn't the first, and the one there.
+    /// The end before the one at a position, which isn't the first, and the one there.
     #[inline(always)]
-    pub(crate) fn bounds_at(&self, place: usize) -> (usize, usize)
-        requires later { 0 < place }
-        requires within { place < length self.now }
-        ensures start { slice_get self.now (place - 1) ≡ Some result.0 }
-        ensures end { slice_get self.now place ≡ Some result.1 }
+    pub(crate) fn bounds_at(&self, index: usize) -> (usize, usize)
+        requires later { 0 < index }
+        requires within { index < length self.now }
+        ensures start { slice_get self.now (index - 1) ≡ Some result.0 }
+        ensures end { slice_get self.now index ≡ Some result.1 }
     {
-        let (before, here) = two_places(&self.offsets, place - 1);
-        let start = end_at(self.starts.as_slice(), place - 1, before);
-        let end = end_at(self.starts.as_slice(), place, here);
+        let (before, here) = two_indexes(&self.offsets, index - 1);
+        let start = end_at(self.starts.as_slice(), index - 1, before);
+        let end = end_at(self.starts.as_slice(), index, here);
         (start, end)
     }
 
@@ -127,7 +125,7 @@ impl Ends {
     {
         let count = self.offsets.len();
         let from = start_for(&mut self.starts, count, start)?;
-        push_place(&mut self.offsets, end - from)?;
+        push_index(&mut self.offsets, end - from)?;
         Ok(())
     }
 

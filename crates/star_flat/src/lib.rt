@@ -1,7 +1,7 @@
 //! Lists in flat storage: of texts, one buffer for the bytes of all and one for where each ends; of
-//! texts, many of them equal: the kept ones, and for each text a place among these; of numbers,
+//! texts, many of them equal: the kept ones, and for each text a position among these; of numbers,
 //! words no wider than they need. And of a list of texts the different ones in order, with the
-//! place of each text among them.
+//! position of each text among them.
 #![tactic(auto)]
 
 mod coding;

@@ -23,8 +23,8 @@ fn count_remainders(alloc: Global, texts: &FlatTexts, count: u32) -> Result<u32,
 {
     let mut met = vec![in alloc; false; texts.len()]?;
     let mut different = 0;
-    for place in 0..texts.len() {
-        let remainder = (mark_of(texts.get(place)) % count) as usize;
+    for index in 0..texts.len() {
+        let remainder = (mark_of(texts.get(index)) % count) as usize;
         if !met[remainder] {
             met[remainder] = true;
             different += 1;

@@ -12,11 +12,11 @@ const SHORT: usize = 16;
 /// How many short texts are remembered.
 pub(crate) const REMEMBERED: usize = 64;
 
-/// A short text, and the place of an equal one among those that are kept. If `len` is more than
+/// A short text, and the position of an equal one among those that are kept. If `len` is more than
 /// 16 there is none.
 #[derive(Clone, Copy)]
 pub(crate) struct Met {
-    place: usize,
+    index: usize,
     len: usize,
     bytes: [u8; 16],
 }
@@ -26,13 +26,13 @@ pub(crate) fn nothing_met() -> [Met; REMEMBERED]
     ensures { (kept : List (List ℕ)) → All (IsMet kept) result }
 {
     [Met {
-        place: 0,
+        index: 0,
         len: SHORT + 1,
         bytes: [0; 16],
     }; REMEMBERED]
 }
 
-// How many of 16 bytes come before one that differs from a text's at the same place.
+// How many of 16 bytes come before one that differs from a text's at the same position.
 #[inline(always)]
 fn same_front(bytes: &[u8; 16], text: &[u8]) -> usize
     requires { 16 ≤ length text.now }
@@ -66,28 +66,28 @@ fn begin_with(bytes: &[u8; 16], text: &[u8], count: usize) -> bool
     true
 }
 
-/// Returns the place of a text that equals the first `count` bytes of this one, if it is remembered.
+/// Returns the position of a text that equals the first `count` bytes of this one, if it is remembered.
 #[inline(always)]
 pub(crate) fn find_met(met: &[Met; REMEMBERED], text: &[u8], count: usize) -> Option<usize>
     requires { count ≤ length text.now }
     ensures { (kept : List (List ℕ)) → All (IsMet kept) met.now
-        → IfSome result (λ place. slice_get kept place ≡ Some (take count text.now)) }
+        → IfSome result (λ index. slice_get kept index ≡ Some (take count text.now)) }
 {
     if count > SHORT {
         return None;
     }
     let slot = &met[slot_of(&text[..count]) % REMEMBERED];
     if slot.len == count && begin_with(&slot.bytes, text, count) {
-        Some(slot.place)
+        Some(slot.index)
     } else {
         None
     }
 }
 
-/// Remembers the place of a text, if that is short.
-pub(crate) fn remember(met: &mut [Met; REMEMBERED], text: &[u8], place: usize)
+/// Remembers the position of a text, if that is short.
+pub(crate) fn remember(met: &mut [Met; REMEMBERED], text: &[u8], index: usize)
     ensures { (kept : List (List ℕ)) → All (IsMet kept) met.old
-        → slice_get kept place ≡ Some text.now → All (IsMet kept) met.new }
+        → slice_get kept index ≡ Some text.now → All (IsMet kept) met.new }
 {
     if text.len() > SHORT {
         return;
@@ -95,7 +95,7 @@ pub(crate) fn remember(met: &mut [Met; REMEMBERED], text: &[u8], place: usize)
     let mut bytes = [0; 16];
     bytes[..text.len()].copy_from_slice(text);
     met[slot_of(text) % REMEMBERED] = Met {
-        place,
+        index,
         len: text.len(),
         bytes,
     };

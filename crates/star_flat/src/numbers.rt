@@ -1,7 +1,7 @@
 // A list of numbers, in words as wide as they need.
 
 ghost use Rattle.std.specs.Prelude.{◌≡◌, ◌<◌, ◌+◌, ◌++◌, ◌∷◌, [], OnErr, OnOk, Some, length, slice_get, take};
-ghost use Rattle.star_flat.specs.{Repeated.places_in, Words.numbers_in};
+ghost use Rattle.star_flat.specs.{Repeated.indexes_in, Words.numbers_in};
 
 use crate::words::SignedWords;
 use std::alloc::{AllocError, Global};
@@ -47,22 +47,22 @@ impl FlatNumbers {
         self.words.len()
     }
 
-    /// The number at a place, from 0.
-    pub fn get(&self, place: usize) -> i64
-        requires { place < length self.now }
-        ensures { slice_get self.now place ≡ Some result }
+    /// The number at a position, from 0.
+    pub fn get(&self, index: usize) -> i64
+        requires { index < length self.now }
+        ensures { slice_get self.now index ≡ Some result }
     {
-        self.words.at(place)
+        self.words.at(index)
     }
 
-    /// The numbers at a place, from 0, and at the next one.
+    /// The numbers at a position, from 0, and at the next one.
     #[inline(always)]
-    pub(crate) fn two_at(&self, place: usize) -> (i64, i64)
-        requires { place + 1 < length self.now }
-        ensures first { slice_get self.now place ≡ Some result.0 }
-        ensures second { slice_get self.now (place + 1) ≡ Some result.1 }
+    pub(crate) fn two_at(&self, index: usize) -> (i64, i64)
+        requires { index + 1 < length self.now }
+        ensures first { slice_get self.now index ≡ Some result.0 }
+        ensures second { slice_get self.now (index + 1) ≡ Some result.1 }
     {
-        self.words.two_at(place)
+        self.words.two_at(index)
     }
 
     /// The words that the numbers are kept in.
@@ -122,20 +122,20 @@ impl FlatNumbers {
     }
 }
 
-/// The place of a text that equals the one of a row.
-pub(crate) fn place_at(rows: &FlatNumbers, row: usize) -> usize
+/// The position of a text that equals the one of a row.
+pub(crate) fn index_at(rows: &FlatNumbers, row: usize) -> usize
     requires { row < length rows.now }
-    ensures { slice_get (places_in rows.now) row ≡ Some result }
+    ensures { slice_get (indexes_in rows.now) row ≡ Some result }
 {
     rows.get(row).unsigned_abs() as usize
 }
 
-/// The places of a row and of the next one.
+/// The positions of a row and of the next one.
 #[inline(always)]
-pub(crate) fn two_places(rows: &FlatNumbers, row: usize) -> (usize, usize)
+pub(crate) fn two_indexes(rows: &FlatNumbers, row: usize) -> (usize, usize)
     requires { row + 1 < length rows.now }
-    ensures first { slice_get (places_in rows.now) row ≡ Some result.0 }
-    ensures second { slice_get (places_in rows.now) (row + 1) ≡ Some result.1 }
+    ensures first { slice_get (indexes_in rows.now) row ≡ Some result.0 }
+    ensures second { slice_get (indexes_in rows.now) (row + 1) ≡ Some result.1 }
 {
     let (first, second) = rows.two_at(row);
     (
@@ -144,13 +144,13 @@ pub(crate) fn two_places(rows: &FlatNumbers, row: usize) -> (usize, usize)
     )
 }
 
-/// Puts a place at the end, or changes nothing if memory is refused.
+/// Puts a position at the end, or changes nothing if memory is refused.
 #[inline(always)]
-pub(crate) fn push_place(rows: &mut FlatNumbers, place: usize) -> Result<(), AllocError>
-    ensures ok { OnOk result (places_in rows.new ≡ places_in rows.old ++ place ∷ []) }
+pub(crate) fn push_index(rows: &mut FlatNumbers, index: usize) -> Result<(), AllocError>
+    ensures ok { OnOk result (indexes_in rows.new ≡ indexes_in rows.old ++ index ∷ []) }
     ensures err { OnErr result (rows.new ≡ rows.old) }
 {
-    match i64::try_from(place) {
+    match i64::try_from(index) {
         Ok(number) => rows.push(number),
         Err(_) => Err(AllocError),
     }

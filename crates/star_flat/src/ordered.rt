@@ -1,7 +1,6 @@
-// The texts of a list with their places, in the order of their bytes.
+// The texts of a list with their positions, in the order of their bytes.
 
-ghost use Rattle.std.specs.Prelude.{◌≡◌, ◌↔◌, ◌<◌, ◌≤◌, ◌+◌, ◌*◌, ◌%◌, ◌^◌, ◌++◌, ◌∷◌, [], All, IfOk, IsTrue, OnErr, OnOk, length, map, nat_lt, slice_index, slice_index_or, take};
-ghost use Rattle.std.specs.{Int.to_be_bytes, Int.w32, Int.w64, List.range_with_len};
+ghost use Rattle.std.specs.{Prelude.{◌≡◌, ◌↔◌, ◌<◌, ◌≤◌, ◌+◌, ◌*◌, ◌%◌, ◌^◌, ◌++◌, ◌∷◌, [], All, IfOk, IsTrue, OnErr, OnOk, length, map, nat_lt, slice_index, slice_index_or, take}, Int.{to_be_bytes, w32, w64}, List.range_with_len};
 ghost use Rattle.star_flat.specs.Private.Order.{AreInTextOrder, IsKeyed, IsWhole, by_key, digits, ending, key_of, text_at, text_cmp};
 
 use crate::pages::release;
@@ -9,7 +8,7 @@ use crate::texts::FlatTexts;
 use std::alloc::{AllocError, Global};
 use std::cmp::Ordering;
 
-/// The key of a text, by which it is put in order, and its number, which is its place in a list.
+/// The key of a text, by which it is put in order, and its number, which is its position in a list.
 ///
 /// Most keys are distinguished by their fronts, the first 11 bytes of their texts, with no look at
 /// the texts. A text of at most 11 bytes is known by its front.
@@ -25,7 +24,7 @@ pub(crate) struct Numbered {
 /// A text after its front, and its number.
 ///
 /// Two of them compare as their texts do, and equal ones by their numbers. It is twice as long as a
-/// key, but has the place of its text, and those whose fronts are equal are compared sooner.
+/// key, but has the position of its text, and those whose fronts are equal are compared sooner.
 #[derive(Clone, Copy, PartialEq, Eq, PartialOrd, Ord)]
 pub(crate) struct Whole<'t> {
     pub(crate) first: u64,
@@ -34,11 +33,11 @@ pub(crate) struct Whole<'t> {
     pub(crate) number: u32,
 }
 
-/// The byte at a place, 0 after the end.
-fn byte_at(text: &[u8], place: usize) -> u8
-    ensures { result ≡ slice_index text.now place }
+/// The byte at a position, 0 after the end.
+fn byte_at(text: &[u8], index: usize) -> u8
+    ensures { result ≡ slice_index text.now index }
 {
-    match text.get(place) {
+    match text.get(index) {
         Some(byte) => *byte,
         None => 0,
     }
@@ -51,8 +50,8 @@ fn first_of(text: &[u8]) -> u64
     ensures bytes { All (λ byte. byte < 256) text.now }
 {
     let mut digits = 0;
-    for place in 0..8 {
-        digits = digits * 256 + u64::from(byte_at(text, place));
+    for index in 0..8 {
+        digits = digits * 256 + u64::from(byte_at(text, index));
     }
     digits
 }
@@ -95,18 +94,18 @@ fn text_of(texts: &FlatTexts, number: u32) -> &[u8]
 }
 
 impl Numbered {
-    /// The key of the text at a place, from 0.
-    fn at(texts: &FlatTexts, place: usize) -> Numbered
-        requires within { place < length texts.now }
+    /// The key of the text at a position, from 0.
+    fn at(texts: &FlatTexts, index: usize) -> Numbered
+        requires within { index < length texts.now }
         requires few { length texts.now < 2 ^ 32 }
-        ensures number { result.number ≡ place }
+        ensures number { result.number ≡ index }
         ensures keyed { IsKeyed texts.now result }
     {
-        let text = texts.get(place);
+        let text = texts.get(index);
         Numbered {
             first: first_of(text),
             second: second_of(text),
-            number: place as u32,
+            number: index as u32,
         }
     }
 
@@ -152,7 +151,7 @@ impl Numbered {
         ]
     }
 
-    /// Puts the text after others. If the front is the whole text, its place is not read.
+    /// Puts the text after others. If the front is the whole text, its position is not read.
     pub(crate) fn put_text(self, texts: &FlatTexts, put: &mut FlatTexts) -> Result<(), AllocError>
         requires keyed { IsKeyed texts.now self }
         ensures ok { OnOk result (put.new ≡ put.old ++ text_at texts.now self ∷ []) }
@@ -198,8 +197,8 @@ fn with_numbers(alloc: Global, texts: &FlatTexts) -> Result<Vec<Numbered>, Alloc
     ensures keys { IfOk result (λ numbered. All (IsKeyed texts.now) numbered.items) }
 {
     let mut numbered = Vec::with_capacity(alloc, texts.len())?;
-    for place in 0..texts.len() {
-        numbered.push_reserved(Numbered::at(texts, place));
+    for index in 0..texts.len() {
+        numbered.push_reserved(Numbered::at(texts, index));
     }
     Ok(numbered)
 }
@@ -219,18 +218,18 @@ fn by_fronts(alloc: Global, texts: &FlatTexts) -> Result<Vec<Numbered>, AllocErr
 }
 
 impl<'t> Whole<'t> {
-    /// The text at a place, from 0.
-    fn at(texts: &'t FlatTexts, place: usize) -> Whole<'t>
-        requires within { place < length texts.now }
+    /// The text at a position, from 0.
+    fn at(texts: &'t FlatTexts, index: usize) -> Whole<'t>
+        requires within { index < length texts.now }
         requires few { length texts.now < 2 ^ 32 }
-        ensures number { result.number ≡ place }
+        ensures number { result.number ≡ index }
         ensures whole { IsWhole texts.now result }
     {
-        let key = Numbered::at(texts, place);
+        let key = Numbered::at(texts, index);
         Whole {
             first: key.first,
             second: key.second,
-            text: texts.get(place),
+            text: texts.get(index),
             number: key.number,
         }
     }
@@ -255,8 +254,8 @@ fn wholes<'t>(alloc: Global, texts: &'t FlatTexts) -> Result<Vec<Whole<'t>>, All
     ensures wholes { IfOk result (λ wholes. All (IsWhole texts.now) wholes.items) }
 {
     let mut wholes = Vec::with_capacity(alloc, texts.len())?;
-    for place in 0..texts.len() {
-        wholes.push_reserved(Whole::at(texts, place));
+    for index in 0..texts.len() {
+        wholes.push_reserved(Whole::at(texts, index));
     }
     Ok(wholes)
 }
@@ -266,8 +265,8 @@ fn keys_of(alloc: Global, wholes: &[Whole<'_>]) -> Result<Vec<Numbered>, AllocEr
     ensures { IfOk result (λ keys. keys.items ≡ map key_of wholes.now) }
 {
     let mut keys = Vec::with_capacity(alloc, wholes.len())?;
-    for place in 0..wholes.len() {
-        keys.push_reserved(wholes[place].key());
+    for index in 0..wholes.len() {
+        keys.push_reserved(wholes[index].key());
     }
     Ok(keys)
 }
@@ -289,17 +288,17 @@ fn by_wholes(alloc: Global, texts: &FlatTexts) -> Result<Vec<Numbered>, AllocErr
 /// Either answer is right: it only decides how texts are sorted.
 fn are_long(texts: &FlatTexts) -> bool {
     let mut long = 0;
-    for place in 0..texts.len() {
-        if texts.get(place).len() > 11 {
+    for index in 0..texts.len() {
+        if texts.get(index).len() > 11 {
             long += 1;
         }
     }
     long > texts.len() / 3
 }
 
-/// The keys of these texts in the order of their bytes, each with the text's place in the list.
+/// The keys of these texts in the order of their bytes, each with the text's position in the list.
 ///
-/// If many texts are long, all their fronts may be equal; therefore the place of each is kept. That
+/// If many texts are long, all their fronts may be equal; therefore the position of each is kept. That
 /// takes three times the memory, but a long text has more than 11 bytes of its file itself.
 pub(crate) fn in_order(alloc: Global, texts: &FlatTexts) -> Result<Vec<Numbered>, AllocError>
     requires { length texts.now < 2 ^ 32 }

@@ -1,11 +1,11 @@
 // A list of texts, many of them equal.
 
 ghost use Rattle.std.specs.Prelude.{◌≡◌, ◌<◌, ◌≤◌, ◌^◌, ◌++◌, ◌∷◌, [], All, IfOk, IfSome, Some, length, map, slice_get, slice_index, take, OnErr, OnOk};
-ghost use Rattle.star_flat.specs.Repeated.{AreRepeated, places_in, texts_at_places};
+ghost use Rattle.star_flat.specs.Repeated.{AreRepeated, indexes_in, texts_at_indexes};
 
 use crate::marks::may_repeat;
 use crate::met::{Met, REMEMBERED, find_met, nothing_met, remember};
-use crate::numbers::{FlatNumbers, place_at, push_place};
+use crate::numbers::{FlatNumbers, index_at, push_index};
 use crate::pages::release;
 use crate::slot::{SLOTS, slot_of};
 use crate::texts::FlatTexts;
@@ -13,18 +13,18 @@ use std::alloc::{AllocError, Global};
 use std::marker::Model;
 use std::mem::replace;
 
-/// How many texts are kept at least before they are compacted. Their places fit into words of 16
+/// How many texts are kept at least before they are compacted. Their positions fit into words of 16
 /// bits.
 const MANY: usize = 32_768;
 
 /// A list of texts, which a contract sees as the list of their bytes. A text that equals one that
-/// was put lately is not kept again: for each text there is the place of an equal one among those
+/// was put lately is not kept again: for each text there is the position of an equal one among those
 /// that are kept. If many are kept that may repeat, they are compacted: of equal ones one stays.
 pub struct RepeatedTexts {
     alloc: Global,
     kept: FlatTexts,
     rows: FlatNumbers,
-    // Places of texts that were put lately, each in the slot of its text. Any place may be here:
+    // Indexes of texts that were put lately, each in the slot of its text. Any position may be here:
     // it is tried.
     recent: [usize; SLOTS],
     // Short texts of them, by value.
@@ -48,40 +48,40 @@ impl Drop for RepeatedTexts {
 
 impl Model for RepeatedTexts {
     ghost use Rattle.std.specs.Prelude.{List, ℕ};
-    ghost use Rattle.star_flat.specs.Repeated.{AreRepeated, places_in, texts_at_places};
+    ghost use Rattle.star_flat.specs.Repeated.{AreRepeated, indexes_in, texts_at_indexes};
 
     ghost Value = { List (List ℕ) };
 
-    ghost view = { λ texts. texts_at_places texts.kept (places_in texts.rows) };
+    ghost view = { λ texts. texts_at_indexes texts.kept (indexes_in texts.rows) };
 
     ghost use Rattle.std.specs.Prelude.{All};
     ghost use Rattle.star_flat.specs.Private.Met.{IsMet};
 
-    ghost invariant = { λ texts. AreRepeated texts.kept (places_in texts.rows)
+    ghost invariant = { λ texts. AreRepeated texts.kept (indexes_in texts.rows)
         × All (IsMet texts.kept) texts.met };
 }
 
-/// The place of an equal text that was put lately.
+/// The position of an equal text that was put lately.
 #[inline(always)]
-fn recent_place(recent: &[usize; SLOTS], kept: &FlatTexts, text: &[u8]) -> Option<usize>
-    ensures { IfSome result (λ place. slice_get kept.now place ≡ Some text.now) }
+fn recent_index(recent: &[usize; SLOTS], kept: &FlatTexts, text: &[u8]) -> Option<usize>
+    ensures { IfSome result (λ index. slice_get kept.now index ≡ Some text.now) }
 {
-    let place = recent[slot_of(text)];
-    if place < kept.len() && kept.get(place) == text {
-        Some(place)
+    let index = recent[slot_of(text)];
+    if index < kept.len() && kept.get(index) == text {
+        Some(index)
     } else {
         None
     }
 }
 
-/// Keeps a text, and puts its place at the end, or changes nothing if memory is refused.
+/// Keeps a text, and puts its position at the end, or changes nothing if memory is refused.
 fn keep(kept: &mut FlatTexts, rows: &mut FlatNumbers, text: &[u8]) -> Result<(), AllocError>
     ensures kept { OnOk result (kept.new ≡ kept.old ++ text.now ∷ []) }
-    ensures rows { OnOk result (places_in rows.new ≡ places_in rows.old ++ length kept.old ∷ []) }
-    ensures err { OnErr result ((kept.new ≡ kept.old) × (places_in rows.new ≡ places_in rows.old)) }
+    ensures rows { OnOk result (indexes_in rows.new ≡ indexes_in rows.old ++ length kept.old ∷ []) }
+    ensures err { OnErr result ((kept.new ≡ kept.old) × (indexes_in rows.new ≡ indexes_in rows.old)) }
 {
     let count = rows.len();
-    push_place(rows, kept.len())?;
+    push_index(rows, kept.len())?;
     match kept.push(text) {
         Ok(()) => Ok(()),
         Err(error) => {
@@ -91,20 +91,20 @@ fn keep(kept: &mut FlatTexts, rows: &mut FlatNumbers, text: &[u8]) -> Result<(),
     }
 }
 
-/// The item at the place of each row.
+/// The item at the position of each row.
 fn renumbered(alloc: Global, rows: &FlatNumbers, numbers: &[u32]) -> Result<FlatNumbers, AllocError>
-    requires { All (λ place. place < length numbers.now) (places_in rows.now) }
-    ensures { IfOk result (λ renumbered. places_in renumbered
-        ≡ map (λ place. slice_index numbers.now place) (places_in rows.now)) }
+    requires { All (λ index. index < length numbers.now) (indexes_in rows.now) }
+    ensures { IfOk result (λ renumbered. indexes_in renumbered
+        ≡ map (λ index. slice_index numbers.now index) (indexes_in rows.now)) }
 {
     let mut renumbered = FlatNumbers::new(alloc);
     for row in 0..rows.len() {
-        push_place(&mut renumbered, numbers[place_at(rows, row)] as usize)?;
+        push_index(&mut renumbered, numbers[index_at(rows, row)] as usize)?;
     }
     Ok(renumbered)
 }
 
-/// Keeps only one of equal texts, and puts its place for each row, or changes nothing if memory
+/// Keeps only one of equal texts, and puts its position for each row, or changes nothing if memory
 /// is refused.
 fn keep_different(
     alloc: Global,
@@ -112,14 +112,14 @@ fn keep_different(
     rows: &mut FlatNumbers,
 ) -> Result<(), AllocError>
     requires few { length kept.old < 2 ^ 32 }
-    requires repeated { AreRepeated kept.old (places_in rows.old) }
-    ensures texts { texts_at_places kept.new (places_in rows.new) ≡ texts_at_places kept.old (places_in rows.old) }
-    ensures repeated { AreRepeated kept.new (places_in rows.new) }
+    requires repeated { AreRepeated kept.old (indexes_in rows.old) }
+    ensures texts { texts_at_indexes kept.new (indexes_in rows.new) ≡ texts_at_indexes kept.old (indexes_in rows.old) }
+    ensures repeated { AreRepeated kept.new (indexes_in rows.new) }
 {
     let (different, codes) = kept.coded(alloc)?;
-    let places = renumbered(alloc, rows, codes.as_slice())?;
+    let indexes = renumbered(alloc, rows, codes.as_slice())?;
     release(codes);
-    replace(rows, places).release();
+    replace(rows, indexes).release();
     replace(kept, different).release();
     Ok(())
 }
@@ -151,14 +151,14 @@ impl RepeatedTexts {
         requires { row < length self.now }
         ensures { slice_get self.now row ≡ Some result.now }
     {
-        self.kept.get(place_at(&self.rows, row))
+        self.kept.get(index_at(&self.rows, row))
     }
 
-    /// The texts that are kept, some of them equal, and for each text the place of an equal one
+    /// The texts that are kept, some of them equal, and for each text the position of an equal one
     /// among them.
     pub fn parts(&self) -> (&FlatTexts, &FlatNumbers)
-        ensures texts { texts_at_places result.0.now (places_in result.1.now) ≡ self.now }
-        ensures repeated { AreRepeated result.0.now (places_in result.1.now) }
+        ensures texts { texts_at_indexes result.0.now (indexes_in result.1.now) ≡ self.now }
+        ensures repeated { AreRepeated result.0.now (indexes_in result.1.now) }
     {
         (&self.kept, &self.rows)
     }
@@ -181,7 +181,7 @@ impl RepeatedTexts {
         ensures err { OnErr result (self.new ≡ self.old) }
     {
         match find_met(&self.met, text, count) {
-            Some(place) => push_place(&mut self.rows, place),
+            Some(index) => push_index(&mut self.rows, index),
             None => self.push_other(&text[..count]),
         }
     }
@@ -207,10 +207,10 @@ impl RepeatedTexts {
         ensures ok { OnOk result (self.new ≡ self.old ++ text.now ∷ []) }
         ensures err { OnErr result (self.new ≡ self.old) }
     {
-        match recent_place(&self.recent, &self.kept, text) {
-            Some(place) => {
-                remember(&mut self.met, text, place);
-                push_place(&mut self.rows, place)
+        match recent_index(&self.recent, &self.kept, text) {
+            Some(index) => {
+                remember(&mut self.met, text, index);
+                push_index(&mut self.rows, index)
             }
             None => self.push_new(text),
         }
@@ -229,12 +229,11 @@ impl RepeatedTexts {
         keep(&mut self.kept, &mut self.rows, text)
     }
 
-    /// Keeps only one of equal texts, if many may repeat, or changes nothing if memory is
-    /// refused.
+    /// Keeps only one of equal texts, if many may repeat, or changes nothing if memory is refused.
     ///
     /// After that at least twice as many more texts are kept as remain now, and as a quarter of the
     /// rows, before it is done again. Each text that is kept thus pays for the sort of one and a
-    /// half texts and for the new places of four rows. If few repeat, they are only marked, and as
+    /// half texts and for the new positions of four rows. If few repeat, they are only marked, and as
     /// many more of them are kept; each pays for two marks. No choice of texts takes more than n
     /// log n.
     fn compact(&mut self) -> Result<(), AllocError>

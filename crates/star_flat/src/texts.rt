@@ -52,13 +52,13 @@ impl FlatTexts {
         self.len() == 0
     }
 
-    /// The text at a place, from 0.
+    /// The text at a position, from 0.
     #[inline(always)]
-    pub fn get(&self, place: usize) -> &[u8]
-        requires { place < length self.now }
-        ensures { slice_get self.now place ≡ Some result.now }
+    pub fn get(&self, index: usize) -> &[u8]
+        requires { index < length self.now }
+        ensures { slice_get self.now index ≡ Some result.now }
     {
-        text_at(self.bytes.as_slice(), &self.ends, place)
+        text_at(self.bytes.as_slice(), &self.ends, index)
     }
 
     /// Lets the texts go, as `release` does.
@@ -84,26 +84,26 @@ impl FlatTexts {
     }
 }
 
-// The start and the end of the text at a place.
+// The start and the end of the text at a position.
 #[inline(always)]
-fn range_at(ends: &Ends, place: usize) -> (usize, usize)
-    requires { place < length ends.now }
-    ensures start { result.0 ≡ text_start 0 ends.now place }
-    ensures end { slice_get ends.now place ≡ Some result.1 }
+fn range_at(ends: &Ends, index: usize) -> (usize, usize)
+    requires { index < length ends.now }
+    ensures start { result.0 ≡ text_start 0 ends.now index }
+    ensures end { slice_get ends.now index ≡ Some result.1 }
 {
-    if place == 0 {
+    if index == 0 {
         (0, ends.get(0))
     } else {
-        ends.bounds_at(place)
+        ends.bounds_at(index)
     }
 }
 
 #[inline(always)]
-fn text_at<'t>(bytes: &'t [u8], ends: &Ends, place: usize) -> &'t [u8]
+fn text_at<'t>(bytes: &'t [u8], ends: &Ends, index: usize) -> &'t [u8]
     requires cut { IsCut 0 ends.now (length bytes.now) }
-    requires within { place < length ends.now }
-    ensures { slice_get (texts_from 0 bytes.now ends.now) place ≡ Some result.now }
+    requires within { index < length ends.now }
+    ensures { slice_get (texts_from 0 bytes.now ends.now) index ≡ Some result.now }
 {
-    let (start, end) = range_at(ends, place);
+    let (start, end) = range_at(ends, index);
     &bytes[start..end]
 }

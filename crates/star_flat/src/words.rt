@@ -1,7 +1,6 @@
 // Numbers with a sign in words of 8, 16, 32 and 64 bits.
 
-ghost use Rattle.std.specs.Prelude.{◌≡◌, ◌<◌, ◌+◌, ◌++◌, ◌∷◌, [], ℤ, true, FitsSigned, IfOk, MatchBool, MatchOption, OnErr, OnOk, Some, length, map, slice_get, take, vec_capacity, vec_len};
-ghost use Rattle.std.specs.{Int.w8, Int.w16, Int.w32, Int.w64, Ordering.int_cmp};
+ghost use Rattle.std.specs.{Prelude.{◌≡◌, ◌<◌, ◌+◌, ◌++◌, ◌∷◌, [], ℤ, true, FitsSigned, IfOk, MatchBool, MatchOption, OnErr, OnOk, Some, length, map, slice_get, take, vec_capacity, vec_len}, Int.{w8, w16, w32, w64}, Ordering.int_cmp};
 ghost use Rattle.star_flat.specs.{Words.less, Words.numbers_in, Private.Widths.widenings};
 
 use crate::pages::release;
@@ -146,14 +145,14 @@ fn push_to<W: SignedWord>(words: &mut Vec<W>, number: i64) -> Result<bool, Alloc
     }
 }
 
-/// The numbers at a place, from 0, and at the next one.
+/// The numbers at a position, from 0, and at the next one.
 #[inline(always)]
-fn two_in<W: SignedWord>(words: &[W], place: usize) -> (i64, i64)
-    requires { place + 1 < length words.now }
-    ensures first { slice_get (map W.number words.now) place ≡ Some result.0 }
-    ensures second { slice_get (map W.number words.now) (place + 1) ≡ Some result.1 }
+fn two_in<W: SignedWord>(words: &[W], index: usize) -> (i64, i64)
+    requires { index + 1 < length words.now }
+    ensures first { slice_get (map W.number words.now) index ≡ Some result.0 }
+    ensures second { slice_get (map W.number words.now) (index + 1) ≡ Some result.1 }
 {
-    (words[place].value(), words[place + 1].value())
+    (words[index].value(), words[index + 1].value())
 }
 
 /// The same numbers in words that can be every number that they could.
@@ -184,31 +183,31 @@ impl SignedWords {
         }
     }
 
-    /// The number at a place, from 0.
-    pub(crate) fn at(&self, place: usize) -> i64
-        requires { place < length (numbers_in self.now) }
-        ensures { slice_get (numbers_in self.now) place ≡ Some result }
+    /// The number at a position, from 0.
+    pub(crate) fn at(&self, index: usize) -> i64
+        requires { index < length (numbers_in self.now) }
+        ensures { slice_get (numbers_in self.now) index ≡ Some result }
     {
         match self {
-            SignedWords::Bits8(words) => words[place].value(),
-            SignedWords::Bits16(words) => words[place].value(),
-            SignedWords::Bits32(words) => words[place].value(),
-            SignedWords::Bits64(words) => words[place].value(),
+            SignedWords::Bits8(words) => words[index].value(),
+            SignedWords::Bits16(words) => words[index].value(),
+            SignedWords::Bits32(words) => words[index].value(),
+            SignedWords::Bits64(words) => words[index].value(),
         }
     }
 
-    /// The numbers at a place, from 0, and at the next one, by one look at the width of the words.
+    /// The numbers at a position, from 0, and at the next one, by one look at the width of the words.
     #[inline(always)]
-    pub(crate) fn two_at(&self, place: usize) -> (i64, i64)
-        requires { place + 1 < length (numbers_in self.now) }
-        ensures first { slice_get (numbers_in self.now) place ≡ Some result.0 }
-        ensures second { slice_get (numbers_in self.now) (place + 1) ≡ Some result.1 }
+    pub(crate) fn two_at(&self, index: usize) -> (i64, i64)
+        requires { index + 1 < length (numbers_in self.now) }
+        ensures first { slice_get (numbers_in self.now) index ≡ Some result.0 }
+        ensures second { slice_get (numbers_in self.now) (index + 1) ≡ Some result.1 }
     {
         match self {
-            SignedWords::Bits8(words) => two_in(words.as_slice(), place),
-            SignedWords::Bits16(words) => two_in(words.as_slice(), place),
-            SignedWords::Bits32(words) => two_in(words.as_slice(), place),
-            SignedWords::Bits64(words) => two_in(words.as_slice(), place),
+            SignedWords::Bits8(words) => two_in(words.as_slice(), index),
+            SignedWords::Bits16(words) => two_in(words.as_slice(), index),
+            SignedWords::Bits32(words) => two_in(words.as_slice(), index),
+            SignedWords::Bits64(words) => two_in(words.as_slice(), index),
         }
     }
 

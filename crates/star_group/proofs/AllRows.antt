@@ -1,7 +1,5 @@
 -- The rows of a deferred store in the end are those of an eager one.
-use Rattle.star_group.proofs.Common.{Entry, Row, RowKey, ◌≡◌, ℕ, ◌-◌, ◌≤◌, List, [], ◌∷◌, length, arith, AllByRecursion, and-false, or-false, ∥∥₁_map, map-id, at_each, Aggregate, Shape}
-use Rattle.star_group.proofs.Common.{KeyValue, AreGrouped, HasBaseWithRoom, IsRowOver, puts_with, row_found, is_of_put, key_eq, padded, vary, IsRolledUp, IsRolledUpWithRoom, first_hidden, is_among, keys_from, group_with, Update, Group, AreOnce}
-use Rattle.star_group.proofs.{GroupKeys.key_decides, GroupKeys.own_grouping, GroupKeys.plain_among, BaseKeyLemmas.vary-start, Filters.filter_each}
+use Rattle.star_group.proofs.{Common.{Entry, Row, RowKey, ◌≡◌, ℕ, ◌-◌, ◌≤◌, List, [], ◌∷◌, length, arith, AllByRecursion, and-false, or-false, ∥∥₁_map, map-id, at_each, Aggregate, Shape, KeyValue, AreGrouped, HasBaseWithRoom, IsRowOver, puts_with, row_found, is_of_put, key_eq, padded, vary, IsRolledUp, IsRolledUpWithRoom, first_hidden, is_among, keys_from, group_with, Update, Group, AreOnce}, GroupKeys.{key_decides, own_grouping, plain_among}, BaseKeyLemmas.vary-start, Filters.filter_each}
 use Rattle.std.proofs.lemmas.Grind.{common_steps}
 
 -- ---- the base rows have no ALL
@@ -23,9 +21,8 @@ pub base_rolled : (d : Group) (es : List Entry) (us : List Update)
 base_rolled d es us few fit rows once =
     grind (arith, common_steps, row_found, filter_each, base_among, at_each)
 
-pub base_room : (shape : Shape) (count : ℕ) (gs : List Aggregate)
-    (es : List Entry) (all : Row) → count ≤ 6
-    → HasBaseWithRoom (group_with shape count gs) es all → AreOnce es
+pub base_room : (shape : Shape) (count : ℕ) (gs : List Aggregate) (es : List Entry) (all : Row)
+    → count ≤ 6 → HasBaseWithRoom (group_with shape count gs) es all → AreOnce es
     → ∥ IsRolledUpWithRoom shape count gs count es ∥₁
 base_room shape count gs es all few room once = ∥∥₁_map room (λ r. record {
   puts = r.0;

@@ -1,15 +1,11 @@
--- What stands at places, with the numbers of more puts.
-use Rattle.star_group.proofs.Common.{◌≡◌, ℕ, zero, suc, ◌-◌, ◌<◌, ◌≤◌, ◌^◌, Bool, true, false, nat_eq, cond, FitsSigned, w64, ℤ, pos, negsuc, List, ◌∷◌, Option, Some, length, get_or, set, refl, ap, sym, ◌∙◌, arith, filter, option_eq, unwrap_or}
-use Rattle.star_group.proofs.Common.{eqb-true, eq-eqb, lt-ltb, ltb-false, ltb-true, ints, int_min_is, int_max_is, get_or-set_same, get_or_past, length-set, Aggregate, numbers_for, KeyValue, leaves, Update, aggregate_at, Span, puts_after, step}
-use Rattle.star_group.proofs.Common.{has_puts, AreAt, cell_over, neutral, is_at, cell_place, AreWithin, CanTake, column_after, taking, Group, HasRoom, put_number}
-use Rattle.star_group.proofs.{Rooms.held_stays}
+-- What stands at positions, with the numbers of more puts.
+use Rattle.star_group.{proofs.Common.{◌≡◌, ℕ, zero, suc, ◌-◌, ◌<◌, ◌≤◌, ◌^◌, Bool, true, false, nat_eq, cond, FitsSigned, w64, ℤ, pos, negsuc, List, ◌∷◌, Option, Some, length, get_or, set, refl, ap, sym, ◌∙◌, arith, filter, option_eq, unwrap_or, eqb-true, eq-eqb, lt-ltb, ltb-false, ltb-true, ints, int_min_is, int_max_is, get_or-set_same, get_or_past, length-set, Aggregate, numbers_for, KeyValue, leaves, Update, aggregate_at, Span, puts_after, step, has_puts, AreAt, cell_over, neutral, is_at, group_id, AreWithin, CanTake, column_after, taking, Group, HasRoom, put_number}, proofs.Rooms.held_stays, specs.Cells.held, specs.Private.Taken.after_rows}
 use Rattle.star_interval.specs.Range.{is_i64}
-use Rattle.star_group.specs.{Cells.held, Private.Taken.after_rows}
 use Rattle.std.proofs.lemmas.Grind.{common_steps}
 
--- ---- the puts at a place
+-- ---- the puts at a position
 
-pub at_here : (spans : List Span) (keys : List KeyValue) (p q : ℕ) → cell_place spans keys ≡ Some q
+pub at_here : (spans : List Span) (keys : List KeyValue) (p q : ℕ) → group_id spans keys ≡ Some q
     → is_at spans p keys ≡ nat_eq q p
 at_here spans keys p q e = ap (λ r. option_eq nat_eq r (Some p)) e
 
@@ -35,7 +31,7 @@ module _ {A : Type 0} (none : A) (value : List Update → A) (change : ℕ → A
   -- one row more
   pub at_more : (row : ℕ) (items : List A) (us : List Update)
       → ((ws : List Update) → change row (value ws) ≡ value (u row ∷ ws))
-      → cell_place spans (u row).keys ≡ Some (get_or at row 0) → AreAt none value spans items us
+      → group_id spans (u row).keys ≡ Some (get_or at row 0) → AreAt none value spans items us
       → AreAt none value spans
       (set items (get_or at row 0) (change row (get_or items (get_or at row 0) none))) (u row ∷ us)
   at_more row items us changes is are p h =
@@ -43,7 +39,7 @@ module _ {A : Type 0} (none : A) (value : List Update → A) (change : ℕ → A
 
   pub at_after : (items : List A) (us : List Update) (rows : ℕ)
       → ((row : ℕ) → row < rows → (ws : List Update) → change row (value ws) ≡ value (u row ∷ ws))
-      → ((row : ℕ) → row < rows → cell_place spans (u row).keys ≡ Some (get_or at row 0))
+      → ((row : ℕ) → row < rows → group_id spans (u row).keys ≡ Some (get_or at row 0))
       → AreAt none value spans items us
       → AreAt none value spans (after_rows none change at items rows) (puts_after u us rows)
   unfolding after_rows
@@ -68,7 +64,7 @@ pub record IsVector (a : ℕ) (u : ℕ → Update) (vector : List ℤ) (rows : �
 
 module _ (d : Group) (a : ℕ) (spans : List Span) (u : ℕ → Update) (at : List ℕ) (vector : List ℤ)
     (rows : ℕ) (are : IsVector a u vector rows)
-    (is : (row : ℕ) → row < rows → cell_place spans (u row).keys ≡ Some (get_or at row 0)) where
+    (is : (row : ℕ) → row < rows → group_id spans (u row).keys ≡ Some (get_or at row 0)) where
   abbrev g : Aggregate
   g = aggregate_at d.aggregates a
 
@@ -107,11 +103,11 @@ module _ (d : Group) (a : ℕ) (spans : List Span) (u : ℕ → Update) (at : Li
       (at_here spans (u row).keys q q (is row few) ∙ eq-eqb q q refl)))
       ∙ held_stays d (u row ∷ puts_after u us row) (room row few) (is_at spans q) a declared
 
--- ---- which places have puts
+-- ---- which positions have puts
 
 pub seen_at : (spans : List Span) (u : ℕ → Update) (at : List ℕ) (seen : List Bool)
     (us : List Update) (rows : ℕ)
-    → ((row : ℕ) → row < rows → cell_place spans (u row).keys ≡ Some (get_or at row 0))
+    → ((row : ℕ) → row < rows → group_id spans (u row).keys ≡ Some (get_or at row 0))
     → AreAt false has_puts spans seen us
     → AreAt false has_puts spans (after_rows false (λ row was. true) at seen rows)
     (puts_after u us rows)

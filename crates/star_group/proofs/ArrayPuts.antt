@@ -1,29 +1,23 @@
 -- The content of a array store, with the puts of more rows.
-use Rattle.star_group.proofs.Common.{Entry, ◌≡◌, ℕ, zero, suc, ◌+◌, ◌*◌, ◌<◌, ◌≤◌, Bool, true, false, nat_eq, cond, ℤ, pos, List, [], ◌∷◌, Some, None, Result, Ok, Err, OnOk, OnErr, length, get_or, replicate, refl, ap, sym, ◌∙◌, subst, arith, ◌&&◌, filter, AllByRecursion, is_none}
-use Rattle.star_group.proofs.Common.{option_eq, get_or-replicate, length-replicate, ∥∥₁_map, Aggregate, Count, is_i64, KeyValue, cut, PutBatch, ArrayStore, Span, AreOnce, IsBase, HasRoomForRows, puts_after, put_in, has_puts, AreAt, IsArrayContent, IsArrayContentWithRoom, aggregate_cells, cell_over}
-use Rattle.star_group.proofs.Common.{neutral, is_at, is_outside, cell_place, offset_of, group_with, group_view, entries_of, Has, IsRolledUp, AreCellsTaken, AreWithin, CanTake, after_rows, batch_vectors, column_after, vectors_of, Update, aggregate_at, Group, put_number, IsRolledUpWithRoom}
-use Rattle.star_group.proofs.Common.{IsListed, AreInBits, numbers_for, leaves, HasNarrow}
-use Rattle.star_group.proofs.ArrayCells.{IsVector, can_take, column_at, length-after_rows, seen_at}
-use Rattle.star_group.proofs.{CutRows.cut_wide, ArrayVectors.vector_number, Filters.filter_twice, Rooms.held_stays, SpanPlaces.above_parts, SpanPlaces.within, KeyedRows.rows_once}
-use Rattle.star_group.specs.Cells.{held}
-use Rattle.star_group.specs.declared.deferred.DeferredStore.{DeferredStore}
+use Rattle.star_group.{proofs.Common.{Entry, ◌≡◌, ℕ, zero, suc, ◌+◌, ◌*◌, ◌<◌, ◌≤◌, Bool, true, false, nat_eq, cond, ℤ, pos, List, [], ◌∷◌, Some, None, Result, Ok, Err, OnOk, OnErr, length, get_or, replicate, refl, ap, sym, ◌∙◌, subst, arith, ◌&&◌, filter, AllByRecursion, is_none, option_eq, get_or-replicate, length-replicate, ∥∥₁_map, Aggregate, Count, is_i64, KeyValue, cut, PutBatch, ArrayStore, Span, AreOnce, IsBase, HasRoomForRows, puts_after, put_in, has_puts, AreAt, IsArrayContent, IsArrayContentWithRoom, aggregate_cells, cell_over, neutral, is_at, is_outside, group_id, offset_of, group_with, group_view, entries_of, Has, IsRolledUp, AreCellsTaken, AreWithin, CanTake, after_rows, batch_vectors, column_after, vectors_of, Update, aggregate_at, Group, put_number, IsRolledUpWithRoom, IsListed, AreInBits, numbers_for, leaves, HasNarrow}, proofs.ArrayCells.{IsVector, can_take, column_at, length-after_rows, seen_at}, proofs.CutRows.cut_wide, proofs.ArrayVectors.vector_number, proofs.Filters.filter_twice, proofs.Rooms.held_stays, proofs.SpanIds.{above_parts, within}, proofs.KeyedRows.rows_once, specs.Cells.held, specs.declared.deferred.DeferredStore.DeferredStore}
 use Rattle.star_group.specs.Deferred as deferred
 use Rattle.std.proofs.lemmas.Int.{ints}
 
--- as many keys have places as there are ranges
-content_long : (ss : List Span) (ks : List KeyValue) (p : ℕ) → cell_place ss ks ≡ Some p
+-- as many keys have positions as there are ranges
+content_long : (ss : List Span) (ks : List KeyValue) (p : ℕ) → group_id ss ks ≡ Some p
     → length ks ≡ length ss
 content_long [] [] p e = refl
 content_long [] (k ∷ ks) p e = absurd (let no : ⊥ = cc e in no)
 content_long (s ∷ ss) [] p e = absurd (let no : ⊥ = cc e in no)
 content_long (s ∷ ss) (k ∷ ks) p e = let parts =
-    above_parts (offset_of s k) (s.last + 1) (cell_place ss ks) p e in
+    above_parts (offset_of s k) (s.last + 1) (group_id ss ks) p e in
     ap suc (content_long ss ks parts.2.behind parts.2.is_rest)
 
--- ---- rows with a place each
+-- ---- rows with a position each
 
 -- a store has these marks and cells after the puts of some rows
-pub record IsAfter (s : ArrayStore) (u : ℕ → Update) (rows : ℕ) (seen : List Bool) (cells : List ℤ) :
+pub record IsAfter (s : ArrayStore) (u : ℕ → Update) (rows : ℕ) (seen : List Bool)
+    (cells : List ℤ) :
     Type 0 where
   pub marks : length seen ≡ length s.seen.items
   pub long : length cells ≡ length s.rest.aggregates.items * length seen
@@ -32,7 +26,7 @@ pub record IsAfter (s : ArrayStore) (u : ℕ → Update) (rows : ℕ) (seen : Li
       (puts_after u us rows)
 
 module _ (s : ArrayStore) (u : ℕ → Update) (at : List ℕ) (vectors : ℕ → List ℤ) (rows : ℕ)
-    (are : (row : ℕ) → row < rows → cell_place s.spans.items (u row).keys ≡ Some (get_or at row 0))
+    (are : (row : ℕ) → row < rows → group_id s.spans.items (u row).keys ≡ Some (get_or at row 0))
     (many : length at ≡ rows) where
   abbrev d : Group
   d = group_view s
@@ -129,9 +123,9 @@ pub one_vector : (u : Update) (a : ℕ) → is_i64 (put_number a u) ≡ true
     → IsVector a (λ row. u) (vectors_of u.values a) 1
 one_vector u a narrow = grind (arith, first_row, first_vector)
 
--- ---- a put without a place
+-- ---- a put without a position
 
-module _ (s : ArrayStore) (u : Update) (outside : cell_place s.spans.items u.keys ≡ None)
+module _ (s : ArrayStore) (u : Update) (outside : group_id s.spans.items u.keys ≡ None)
     (us : List Update) where
   more_outside : filter (λ w. is_outside s.spans.items w.keys) (u ∷ us)
       ≡ u ∷ filter (λ w. is_outside s.spans.items w.keys) us
@@ -140,12 +134,12 @@ module _ (s : ArrayStore) (u : Update) (outside : cell_place s.spans.items u.key
 
   pub room_outside : AreInBits (group_view s) (u ∷ us)
       → AreInBits (group_view s) (u ∷ filter (λ w. is_outside s.spans.items w.keys) us)
-  room_outside room p place h =
-      let g = aggregate_at (group_view s).aggregates place in
-      ap (λ ws. leaves g (held g (numbers_for place ws)))
+  room_outside room p id h =
+      let g = aggregate_at (group_view s).aggregates id in
+      ap (λ ws. leaves g (held g (numbers_for id ws)))
       (ap (filter (λ w. p w.keys)) (sym more_outside)
       ∙ filter_twice (λ w. is_outside s.spans.items w.keys) (λ w. p w.keys) (u ∷ us))
-      ∙ room (λ ks. p ks && is_outside s.spans.items ks) place h
+      ∙ room (λ ks. p ks && is_outside s.spans.items ks) id h
 
   same_at : (p : ℕ) → filter (λ w. is_at s.spans.items p w.keys) (u ∷ us)
       ≡ filter (λ w. is_at s.spans.items p w.keys) us
@@ -153,7 +147,7 @@ module _ (s : ArrayStore) (u : Update) (outside : cell_place s.spans.items u.key
       (u ∷ filter (λ w. is_at s.spans.items p w.keys) us)
       (filter (λ w. is_at s.spans.items p w.keys) us)) outside
 
-  -- what the store of the puts without a place became
+  -- what the store of the puts without a position became
   module _ (rest : DeferredStore) (same : deferred.group_view rest ≡ group_view s) where
     abbrev Now : List Update → Type 0
     Now ws = IsArrayContent (deferred.group_view rest) s.spans.items s.seen.items s.cells.items

@@ -1,34 +1,30 @@
--- The rows and the total of puts, some of which stand by their places.
-use Rattle.star_group.proofs.Common.{Entry, Row, RowKey, ◌≡◌, ℕ, suc, ◌*◌, ◌<◌, Bool, true, false, ◌&&◌, ◌||◌, nat_eq, nat_lt, ℤ, pos, List, [], ◌∷◌, Option, Some, None, length, get_or, refl, ap, sym, ◌∙◌, subst, arith, true≢false, filter, option_eq, unwrap_or, Bool-set, Contains}
-use Rattle.star_group.proofs.Common.{and-true, or-false, ∥∥₁_elim, eqb-true, lt-ltb, nat_tests, of_each, false_from_ne_true, Aggregate, numbers_for, KeyValue, leaves, Update, aggregate_at, KeyPart, Span, HasAggregates, IsRowOver, key_view, puts_with, row_found, has_puts, key_eq, padded, IsArrayContent}
-use Rattle.star_group.proofs.Common.{aggregate_cells, neutral, is_at, is_outside, cell_place, places, IsMerged, IsMergedAt, MergeStays, merged, Group, ArrayStore, Has, group_view}
-use Rattle.star_group.proofs.{Filters.filter_all, Filters.filter_twice, Bases.other_row, Bases.base_row, CutRows.cut_wide, GroupKeys.key_decides, Merging.AreSplit, Merging.has_put, Merging.held_parts, Merging.no_puts, Merging.over_parts, Passes.AreOver, Filters.filter_each, ArrayCells.puts_there, SpanPlaces.within}
-use Rattle.star_group.specs.Cells.{held}
+-- The rows and the total of puts, some of which stand by their positions.
+use Rattle.star_group.{proofs.Common.{Entry, Row, RowKey, ◌≡◌, ℕ, suc, ◌*◌, ◌<◌, Bool, true, false, ◌&&◌, ◌||◌, nat_eq, nat_lt, ℤ, pos, List, [], ◌∷◌, Option, Some, None, length, get_or, refl, ap, sym, ◌∙◌, subst, arith, true≢false, filter, option_eq, unwrap_or, Bool-set, Contains, and-true, or-false, ∥∥₁_elim, eqb-true, lt-ltb, nat_tests, of_each, false_from_ne_true, Aggregate, numbers_for, KeyValue, leaves, Update, aggregate_at, KeyPart, Span, HasAggregates, IsRowOver, key_view, puts_with, row_found, has_puts, key_eq, padded, IsArrayContent, aggregate_cells, neutral, is_at, is_outside, group_id, id_count, IsMerged, IsMergedAt, MergeStays, merged, Group, ArrayStore, Has, group_view}, proofs.Filters.{filter_all, filter_twice, filter_each}, proofs.Bases.{other_row, base_row}, proofs.CutRows.cut_wide, proofs.GroupKeys.key_decides, proofs.Merging.{AreSplit, has_put, held_parts, no_puts, over_parts}, proofs.Passes.AreOver, proofs.ArrayCells.puts_there, proofs.SpanIds.within, specs.Cells.held}
 
--- ---- the puts without a place, and those at the first places
+-- ---- the puts without a position, and those at the first positions
 
-abbrev pub below_place : ℕ → Option ℕ → Bool
-below_place n None = true
-below_place n (Some p) = nat_lt p n
+abbrev pub below_id : ℕ → Option ℕ → Bool
+below_id n None = true
+below_id n (Some p) = nat_lt p n
 
 abbrev pub is_below : List Span → ℕ → List KeyValue → Bool
-is_below spans n keys = below_place n (cell_place spans keys)
+is_below spans n keys = below_id n (group_id spans keys)
 
 below_more : (n p : ℕ) → (nat_lt p (suc n) ≡ (nat_lt p n || nat_eq p n))
     × ((nat_lt p n && nat_eq p n) ≡ false)
 below_more n p = (grind (arith, nat_tests), grind (arith, nat_tests))
 
--- one place more
-pub one_place : (spans : List Span) (n : ℕ) (keys : List KeyValue)
+-- one position more
+pub one_id : (spans : List Span) (n : ℕ) (keys : List KeyValue)
     → (is_below spans (suc n) keys ≡ (is_below spans n keys || is_at spans n keys))
     × ((is_below spans n keys && is_at spans n keys) ≡ false)
-one_place spans n keys = grind (arith, below_more)
+one_id spans n keys = grind (arith, below_more)
 
 pub none_below : (spans : List Span) (keys : List KeyValue)
     → is_below spans 0 keys ≡ is_outside spans keys
 none_below spans keys = grind (arith, nat_tests)
 
-pub all_below : (spans : List Span) (keys : List KeyValue) (n : ℕ) → n ≡ places spans
+pub all_below : (spans : List Span) (keys : List KeyValue) (n : ℕ) → n ≡ id_count spans
     → is_below spans n keys ≡ true
 all_below spans keys n same = grind (arith, lt-ltb, within)
 
@@ -38,17 +34,17 @@ puts_below spans n us = filter (λ w. is_below spans n w.keys) us
 pub split_at : (spans : List Span) (n : ℕ) (us : List Update)
     → AreSplit (λ w. is_below spans n w.keys) (λ w. is_at spans n w.keys)
     (λ w. is_below spans (suc n) w.keys) us
-split_at spans n us = of_each _ us (λ w c. one_place spans n w.keys)
+split_at spans n us = of_each _ us (λ w c. one_id spans n w.keys)
 
--- no puts at a place
+-- no puts at a position
 none_more : (spans : List Span) (n : ℕ) (us : List Update) → puts_there spans n us ≡ []
     → (w : Update) → Contains us w → is_below spans (suc n) w.keys ≡ is_below spans n w.keys
 none_more spans n us none w c =
     let apart : is_at spans n w.keys ≡ false = false_from_ne_true (is_at spans n w.keys) (λ h.
     true≢false (sym (has_put (λ u. is_at spans n u.keys) us w c h) ∙ ap has_puts none)) in
-    (one_place spans n w.keys).0 ∙ ap (λ b. is_below spans n w.keys || b) apart ∙ or-false _
+    (one_id spans n w.keys).0 ∙ ap (λ b. is_below spans n w.keys || b) apart ∙ or-false _
 
--- ---- the row at a place
+-- ---- the row at a position
 
 some_cell : (g : Aggregate) (a : ℕ) (ws : List Update) → has_puts ws ≡ true
     → Some (unwrap_or (held g (numbers_for a ws)) (neutral g)) ≡ held g (numbers_for a ws)
@@ -56,7 +52,7 @@ unfolding held
 some_cell g a [] h = absurd (true≢false (sym h))
 some_cell g a (w ∷ ws) h = refl
 
--- what a row has of the cells at a place
+-- what a row has of the cells at a position
 abbrev pub IsRowAt : Group → List Bool → List ℤ → ℕ → Row → Type 0
 IsRowAt d seen cells n row = (a : ℕ) → a < length d.aggregates
     → get_or row a None ≡ Some (get_or (aggregate_cells d seen cells a) n (pos 0))
@@ -74,24 +70,23 @@ module _ (d : Group) (spans : List Span) (seen : List Bool) (cells : List ℤ)
 
 -- ---- the rows
 
--- a put without a place, or at the first places, is in the row of its keys
+-- a put without a position, or at the first positions, is in the row of its keys
 abbrev pub in_row : List Span → ℕ → RowKey → List KeyValue → Bool
 in_row spans n q keys = key_eq q (padded 6 keys) && is_below spans n keys
 
 module _ (d : Group) (spans : List Span) (us : List Update) where
   pub rows_first : (es : List Entry)
-      → ((q : RowKey)
-      → IsRowOver d (puts_with q (filter (λ w. is_outside spans w.keys) us)) (row_found es q))
-      → AreOver d us (in_row spans 0) es
+      → ((q : RowKey) → IsRowOver d (puts_with q (filter (λ w. is_outside spans w.keys) us))
+      (row_found es q)) → AreOver d us (in_row spans 0) es
   rows_first es rows q = grind (arith, row_found, filter_twice, padded, filter_each, none_below)
 
-  pub rows_last : (n : ℕ) → n ≡ places spans → (es : List Entry)
+  pub rows_last : (n : ℕ) → n ≡ id_count spans → (es : List Entry)
       → AreOver d us (in_row spans n) es → (q : RowKey)
       → IsRowOver d (puts_with q us) (row_found es q)
   rows_last n same es over q = grind (arith, row_found, filter_each, padded, all_below, and-true)
 
   module _ (n : ℕ) where
-    -- a place without puts
+    -- a position without puts
     pub rows_same : puts_there spans n us ≡ [] → (es : List Entry)
         → AreOver d us (in_row spans n) es → AreOver d us (in_row spans (suc n)) es
     rows_same none es over q = coe 1 0 (i. IsRowOver d (filter_each us (λ w c.
@@ -119,39 +114,40 @@ module _ (d : Group) (spans : List Span) (us : List Update) where
             let is : q ≡ key_view key = (key_decides q (key_view key)).0 same in
             over_parts d us (λ w. in_row spans n q w.keys) (λ w. is_at spans n w.keys)
             (λ w. in_row spans (suc n) q w.keys) (row_found es q) (row_found fs q) row
-            (of_each _ us (λ w c. let one = one_place spans n w.keys in
+            (of_each _ us (λ w c. let one = one_id spans n w.keys in
             parts (key_eq q (padded 6 w.keys)) (is_below spans n w.keys) (is_at spans n w.keys)
             (is_below spans (suc n) w.keys) one.0 one.1
             (λ at. (key_decides q (padded 6 w.keys)).1 (is ∙ sym (own w.keys at)))))
             (over q) adds (base_row d.aggregates (key_view key) row es fs at q is)
         by false other = coe 1 0 (i. IsRowOver d (filter_each us (λ w c.
             apart (key_eq q (padded 6 w.keys)) (is_below spans n w.keys) (is_at spans n w.keys)
-            (is_below spans (suc n) w.keys) (one_place spans n w.keys).0
+            (is_below spans (suc n) w.keys) (one_id spans n w.keys).0
             (λ there. ap (key_eq q) (own w.keys there) ∙ other)) i)
             (other_row d.aggregates (key_view key) row es fs at q other i)) (over q)
 
--- ---- the keys of a place
+-- ---- the keys of a position
 
 at_is : (r : Option ℕ) (n : ℕ) → option_eq nat_eq r (Some n) ≡ true → r ≡ Some n
 at_is None n e = absurd (true≢false (sym e))
 at_is (Some p) n e = ap Some (eqb-true p n e)
 
-pub own_place : (spans : List Span) (n : ℕ) (keys : List KeyValue) → is_at spans n keys ≡ true
-    → cell_place spans keys ≡ Some n
-own_place spans n keys e = at_is (cell_place spans keys) n e
+pub own_id : (spans : List Span) (n : ℕ) (keys : List KeyValue) → is_at spans n keys ≡ true
+    → group_id spans keys ≡ Some n
+own_id spans n keys e = at_is (group_id spans keys) n e
 
--- ---- the total, with the rows of the first places merged in
+-- ---- the total, with the rows of the first positions merged in
 
 abbrev pub IsSummed : ArrayStore → ℕ → Row → Type 0
 IsSummed s n total =
-    (puts : List Update) → Has s puts → HasAggregates (group_view s) (puts_below s.spans.items n puts) total
+    (puts : List Update) → Has s puts
+    → HasAggregates (group_view s) (puts_below s.spans.items n puts) total
 
 module _ (s : ArrayStore) where
   pub sum_start : IsSummed s 0 s.rest.total
   sum_start puts is = subst (λ ws. HasAggregates (group_view s) ws s.rest.total)
       (filter_each puts (λ w c. sym (none_below s.spans.items w.keys))) is.rest.total
 
-  pub sum_end : (n : ℕ) → n ≡ places s.spans.items → (total : Row) → IsSummed s n total
+  pub sum_end : (n : ℕ) → n ≡ id_count s.spans.items → (total : Row) → IsSummed s n total
       → (puts : List Update) → Has s puts → HasAggregates (group_view s) puts total
   sum_end n same total summed puts is = subst (λ ws. HasAggregates (group_view s) ws total)
       (filter_each puts (λ w c. all_below s.spans.items w.keys n same) ∙ filter_all puts)
@@ -168,12 +164,13 @@ module _ (s : ArrayStore) where
         (at : IsRowAt (group_view s) s.seen.items s.cells.items n row) where
       -- an aggregate of the total and that of the row
       both : (puts : List Update) → Has s puts → (a : ℕ) → a < length (group_view s).aggregates
-          → merged (aggregate_at (group_view s).aggregates a) (get_or total a None) (get_or row a None)
-          ≡ held (aggregate_at (group_view s).aggregates a)
+          → merged (aggregate_at (group_view s).aggregates a) (get_or total a None)
+          (get_or row a None) ≡ held (aggregate_at (group_view s).aggregates a)
           (numbers_for a (puts_below s.spans.items (suc n) puts))
       both puts is a h =
           let adds = (row_there _ _ _ _ _ _ puts is n here s.long row marked at).1 in
-          (λ i. merged (aggregate_at (group_view s).aggregates a) (summed puts is a h i) (adds a h i))
+          (λ i. merged (aggregate_at (group_view s).aggregates a) (summed puts is a h i)
+          (adds a h i))
           ∙ sym (held_parts (aggregate_at (group_view s).aggregates a) a _ _ _ puts
           (split_at s.spans.items n puts))
 
@@ -183,6 +180,7 @@ module _ (s : ArrayStore) where
 
       pub sum_stays : MergeStays (group_view s).aggregates total row
       sum_stays = ∥∥₁_elim s.room
-          (let prop : IsProp (MergeStays (group_view s).aggregates total row) = hlevel Bool-set in prop)
+          (let prop : IsProp (MergeStays (group_view s).aggregates total row) = hlevel Bool-set in
+          prop)
           (λ r a h. ap (leaves (aggregate_at (group_view s).aggregates a)) (both r.0 r.1 a h)
           ∙ r.2 (is_below s.spans.items (suc n)) a h)

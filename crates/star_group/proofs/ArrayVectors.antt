@@ -1,9 +1,8 @@
 -- The numbers of puts, vector by vector, and the cells of one aggregate after another.
 use Rattle.star_group.proofs.Common.{◌≡◌, ℕ, zero, suc, ◌+◌, ◌<◌, ◌≤◌, ℤ, pos, List, [], ◌∷◌, length, drop, drop-cons, get_or, set, refl, ap, ◌∙◌, arith, below_more, get_or-set_other, get_or_default, length-cut, Aggregate, Sum, Count, value_count, aligned, cut, column_after, numbers_from}
-use Rattle.std.proofs.lemmas.Grind.{common_steps}
-use Rattle.std.proofs.lemmas.Int.{ints}
+use Rattle.std.proofs.lemmas.{Grind.common_steps, Int.ints}
 
--- a list is the numbers of its places
+-- a list is the numbers of its positions
 pub vector_same : (xs : List ℤ) (number : ℕ → ℤ) (n : ℕ) → length xs ≡ n
     → ((row : ℕ) → row < n → get_or xs row (pos 0) ≡ number row) → xs ≡ numbers_from number n
 vector_same [] number zero long each = refl
@@ -38,7 +37,7 @@ pub count_left : (gs : List Aggregate) (a : ℕ) (g : Aggregate) (left others : 
     → others ≡ value_count (drop (suc a) gs)
 count_left gs a g left others h all some = grind (arith, drop-cons, count_more)
 
--- the number at a place, and those behind it
+-- the number at a position, and those behind it
 pub next_numbers : (gs : List Aggregate) (a : ℕ) (g : Aggregate) (vs left others : List ℤ) (z : ℤ)
     → a < length gs → drop a vs ≡ aligned (pos 1) (drop a gs) left
     → aligned (pos 1) (get_or gs a g ∷ drop (suc a) gs) left
@@ -49,21 +48,21 @@ next_numbers gs a g vs left others z h are next =
 
 -- ---- the cells of the first aggregates have the numbers
 
-pub record TakenBelow (gs : List Aggregate) (places : ℕ) (vectors : ℕ → List ℤ) (at : List ℕ)
+pub record TakenBelow (gs : List Aggregate) (ids : ℕ) (vectors : ℕ → List ℤ) (at : List ℕ)
     (old new : List ℤ) (n : ℕ) : Type 0 where
-  pub done : (a : ℕ) → a < n → get_or (cut places (length gs) new) a []
-      ≡ column_after (get_or gs a Count) (vectors a) at (get_or (cut places (length gs) old) a [])
+  pub done : (a : ℕ) → a < n → get_or (cut ids (length gs) new) a []
+      ≡ column_after (get_or gs a Count) (vectors a) at (get_or (cut ids (length gs) old) a [])
       (length at)
   pub later : (a : ℕ) → n ≤ a
-      → get_or (cut places (length gs) new) a [] ≡ get_or (cut places (length gs) old) a []
+      → get_or (cut ids (length gs) new) a [] ≡ get_or (cut ids (length gs) old) a []
   pub len : length new ≡ length old
 
-pub taken_more : (gs : List Aggregate) (places : ℕ) (vectors : ℕ → List ℤ) (at : List ℕ)
-    (old new next : List ℤ) (n : ℕ) (vector : List ℤ) → TakenBelow gs places vectors at old new n
+pub taken_more : (gs : List Aggregate) (ids : ℕ) (vectors : ℕ → List ℤ) (at : List ℕ)
+    (old new next : List ℤ) (n : ℕ) (vector : List ℤ) → TakenBelow gs ids vectors at old new n
     → n < length gs → vector ≡ vectors n
-    → cut places (length gs) next ≡ set (cut places (length gs) new) n
-    (column_after (get_or gs n Sum) vector at (get_or (cut places (length gs) new) n [])
+    → cut ids (length gs) next ≡ set (cut ids (length gs) new) n
+    (column_after (get_or gs n Sum) vector at (get_or (cut ids (length gs) new) n [])
     (length at))
-    → length next ≡ length new → TakenBelow gs places vectors at old next (n + 1)
-taken_more gs places vectors at old new next n vector was h same is long =
+    → length next ≡ length new → TakenBelow gs ids vectors at old next (n + 1)
+taken_more gs ids vectors at old new next n vector was h same is long =
     grind (arith, common_steps, ints, cut, length-cut, below_more, get_or-set_other, get_or_default)

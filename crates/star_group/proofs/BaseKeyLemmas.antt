@@ -1,11 +1,6 @@
 -- How the keys of an update's rows are made.
-use Rattle.star_group.proofs.Common.{RowKey, ◌≡◌, ℕ, zero, suc, ◌+◌, ◌<◌, ◌≤◌, Bool, true, false, not, ◌&&◌, cond, true≢false, List, [], ◌∷◌, ◌++◌, Option, Some, None, take, drop, set, length, get_or, map, ap, sym, ◌∙◌, refl, arith, append_assoc, take-append-drop, AllByRecursion, filter, list_all}
-use Rattle.star_group.proofs.Common.{options_equiv, laws-law, is_none, is_some, Rollup, is_grouping, drop-cons, take-suc, get_or-append, false_from_ne_true, All-append, All-from_recursion, filter-append, recursion_from_All, map-append, map-set, KeyValue, KeyPart, All, key_view, key_value_view}
-use Rattle.star_group.proofs.Common.{key_eq}
-use Rattle.std.proofs.lemmas.Simd.{map-map}
-use Rattle.std.specs.List.{IsDistinct}
-use Rattle.star_group.specs.BaseKeys.{padded, vary}
-use Rattle.std.proofs.lemmas.Grind.{common_steps}
+use Rattle.star_group.{proofs.Common.{RowKey, ◌≡◌, ℕ, zero, suc, ◌+◌, ◌<◌, ◌≤◌, Bool, true, false, not, ◌&&◌, cond, true≢false, List, [], ◌∷◌, ◌++◌, Option, Some, None, take, drop, set, length, get_or, map, ap, sym, ◌∙◌, refl, arith, append_assoc, take-append-drop, AllByRecursion, filter, list_all, options_equiv, laws-law, is_none, is_some, Rollup, is_grouping, drop-cons, take-suc, get_or-append, false_from_ne_true, All-append, All-from_recursion, filter-append, recursion_from_All, map-append, map-set, KeyValue, KeyPart, All, key_view, key_value_view, key_eq}, specs.BaseKeys.{padded, vary}}
+use Rattle.std.{proofs.lemmas.Simd.map-map, specs.List.IsDistinct, proofs.lemmas.Grind.common_steps}
 
 pub padded-set : (n : ℕ) (ks : List KeyValue) (i : ℕ) (d : KeyValue) → i < length ks → length ks ≤ n
     → set (padded n (take i ks)) i (Some (get_or ks i d)) ≡ padded n (take (suc i) ks)
@@ -68,7 +63,7 @@ all_padded = refl
 
 -- ---- keys of rows
 
--- one key more, with ALL at a place, where it passes
+-- one key more, with ALL at a position, where it passes
 pub next_hidden : (P : List KeyPart → Bool) (p i : ℕ) (xs now : List (List KeyPart))
     (d : List KeyPart) → i < length xs
     → now ≡ xs ++ filter P (map (λ key. set key p All) (take i xs))

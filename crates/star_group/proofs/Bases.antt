@@ -1,9 +1,5 @@
 -- The base rows of puts, with one put more.
-use Rattle.star_group.proofs.Common.{Entry, Row, RowKey, ◌≡◌, ℕ, Bool, true, false, List, [], ◌∷◌, Option, Some, None, length, get_or, cond, ap, sym, ◌∙◌, refl, subst, filter, unwrap_or, Aggregate, numbers_for, KeyValue, leaves, Update, aggregate_at, KeyPart, AreGrouped, HasAggregates, HasBaseWithRoom, IsBase}
-use Rattle.star_group.proofs.Common.{IsRowOver, key_view, puts_with, row_found, key_eq, padded, IsMerged, IsMergedAt, IsMergedInto, IsRowOfOnePut, MergeStays, RowsStay, cell_of_one_put, merged, Group, put_number, AreInBits}
-use Rattle.star_group.specs.Cells.{held}
-use Rattle.star_group.proofs.{Filters.filter_all, GroupKeys.key_decides, GroupKeys.key_equiv}
-use Rattle.star_group.proofs.Merging.{held_none, held_one, merged_comm, merged_more, no_puts, row_of_one}
+use Rattle.star_group.{proofs.Common.{Entry, Row, RowKey, ◌≡◌, ℕ, Bool, true, false, List, [], ◌∷◌, Option, Some, None, length, get_or, cond, ap, sym, ◌∙◌, refl, subst, filter, unwrap_or, Aggregate, numbers_for, KeyValue, leaves, Update, aggregate_at, KeyPart, AreGrouped, HasAggregates, HasBaseWithRoom, IsBase, IsRowOver, key_view, puts_with, row_found, key_eq, padded, IsMerged, IsMergedAt, IsMergedInto, IsRowOfOnePut, MergeStays, RowsStay, cell_of_one_put, merged, Group, put_number, AreInBits}, specs.Cells.held, proofs.Filters.filter_all, proofs.GroupKeys.{key_decides, key_equiv}, proofs.Merging.{held_none, held_one, merged_comm, merged_more, no_puts, row_of_one}}
 use Rattle.std.proofs.Common.{arith}
 
 -- ---- look-ups after a row was merged in
@@ -35,15 +31,15 @@ module _ (d : Group) (us : List Update) (u : Update) (row : Row)
   pub merge_stays : (all : List Update) (p : List KeyValue → Bool) → AreInBits d all
       → filter (λ w. p w.keys) all ≡ u ∷ us → (held_row : Row)
       → HasAggregates d us held_row → MergeStays d.aggregates held_row row
-  merge_stays all p room is held_row so_far = λ place h.
-      let g = aggregate_at d.aggregates place in
+  merge_stays all p room is held_row so_far = λ index h.
+      let g = aggregate_at d.aggregates index in
       ap (leaves g)
-      ((λ i. merged g (so_far place h i) (one place h i))
-      ∙ merged_comm g (held g (numbers_for place us))
-      (Some (cell_of_one_put g (put_number place u)))
-      ∙ sym (held_one g (put_number place u) (numbers_for place us))
-      ∙ ap (λ ws. held g (numbers_for place ws)) (sym is))
-      ∙ room p place h
+      ((λ i. merged g (so_far index h i) (one index h i))
+      ∙ merged_comm g (held g (numbers_for index us))
+      (Some (cell_of_one_put g (put_number index u)))
+      ∙ sym (held_one g (put_number index u) (numbers_for index us))
+      ∙ ap (λ ws. held g (numbers_for index ws)) (sym is))
+      ∙ room p index h
 
   pub rows_stay : (all : List Update) (p : List KeyValue → Bool) → AreInBits d all
       → filter (λ w. p w.keys) all ≡ u ∷ us → (found : Option Row)
@@ -98,15 +94,15 @@ pub no_rows : (d : Group) (es : List Entry) → es ≡ [] → AreGrouped d es []
 no_rows d es e = subst (λ xs. AreGrouped d xs []) (sym e) (record { fit = tt; rows = λ q. refl })
 
 pub no_base : (d : Group) (es : List Entry) (blank : Row)
-    → es ≡ [] → ((place : ℕ) → get_or blank place None ≡ None) → IsBase d es blank []
+    → es ≡ [] → ((index : ℕ) → get_or blank index None ≡ None) → IsBase d es blank []
 no_base d es blank e none = grind (arith, held_none)
 
 -- ---- no puts are in their bits
 
 pub no_room : (d : Group) → AreInBits d []
 unfolding held
-no_room d p place h = grind (arith, leaves)
+no_room d p index h = grind (arith, leaves)
 
 pub new_room : (d : Group) (es : List Entry) (blank : Row)
-    → es ≡ [] → ((place : ℕ) → get_or blank place None ≡ None) → HasBaseWithRoom d es blank
+    → es ≡ [] → ((index : ℕ) → get_or blank index None ≡ None) → HasBaseWithRoom d es blank
 new_room d es blank e none = ∣ ([], no_base d es blank e none, no_room d) ∣₁

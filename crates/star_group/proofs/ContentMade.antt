@@ -1,9 +1,6 @@
 -- Each list of puts has a content.
-use Rattle.star_group.proofs.Common.{◌≡◌, ℕ, zero, suc, ◌+◌, ◌<◌, Bool, true, false, ℤ, pos, List, [], ◌∷◌, Some, length, map, get_or, cond, ap, sym, ◌∙◌, subst, refl, arith, true≢false, list_any, AllByRecursion, unwrap_or, false_from_ne_true}
-use Rattle.star_group.proofs.Common.{list_any-from_Any, list_any-from_Contains, from_contains_map, of_each, Aggregate, Count, aggregate, joined, numbers_for, KeyValue, same_keys, Update, aggregate_at, Group, IsContent, key_lists, put_number, puts_of}
-use Rattle.star_group.proofs.{JoinedParts.joined_more, JoinedParts.more, KeyLists.keys_decide, KeyLists.keys_equiv, KeyLists.some_put}
-use Rattle.std.specs.List.{IsDistinct}
-use Rattle.std.proofs.lemmas.Int.{ints}
+use Rattle.star_group.proofs.{Common.{◌≡◌, ℕ, zero, suc, ◌+◌, ◌<◌, Bool, true, false, ℤ, pos, List, [], ◌∷◌, Some, length, map, get_or, cond, ap, sym, ◌∙◌, subst, refl, arith, true≢false, list_any, AllByRecursion, unwrap_or, false_from_ne_true, list_any-from_Any, list_any-from_Contains, from_contains_map, of_each, Aggregate, Count, aggregate, joined, numbers_for, KeyValue, same_keys, Update, aggregate_at, Group, IsContent, key_lists, put_number, puts_of}, JoinedParts.{joined_more, more}, KeyLists.{keys_decide, keys_equiv, some_put}}
+use Rattle.std.{specs.List.IsDistinct, proofs.lemmas.Int.ints}
 
 -- ---- each key list once
 
@@ -37,9 +34,9 @@ once_are (u ∷ us) ks = grind (arith, once_are us ks, same_keys, keys_decide)
 -- ---- and its aggregates
 
 abbrev numbers_from : List Aggregate → ℕ → List Update → List ℤ
-numbers_from [] place us = []
-numbers_from (g ∷ gs) place us =
-    unwrap_or (aggregate g (numbers_for place us)) (pos 0) ∷ numbers_from gs (place + 1) us
+numbers_from [] index us = []
+numbers_from (g ∷ gs) index us =
+    unwrap_or (aggregate g (numbers_for index us)) (pos 0) ∷ numbers_from gs (index + 1) us
 
 number_from : (gs : List Aggregate) (p : ℕ) (us : List Update) (a : ℕ) → a < length gs
     → get_or (numbers_from gs p us) a (pos 0)
@@ -65,16 +62,16 @@ module _ (d : Group) (us : List Update) where
   lists_of [] = refl
   lists_of (ks ∷ kss) = ap (λ r. ks ∷ r) (lists_of kss)
 
-  entry_total : (ks : List KeyValue) → list_any (same_keys ks) (key_lists us) ≡ true → (place : ℕ)
-      → place < length d.aggregates
-      → aggregate (aggregate_at d.aggregates place) (numbers_for place (puts_of ks us))
-      ≡ Some (put_number place (entry ks))
-  entry_total ks there place h = grind (arith, some_put, some_total, number_from)
+  entry_total : (ks : List KeyValue) → list_any (same_keys ks) (key_lists us) ≡ true → (index : ℕ)
+      → index < length d.aggregates
+      → aggregate (aggregate_at d.aggregates index) (numbers_for index (puts_of ks us))
+      ≡ Some (put_number index (entry ks))
+  entry_total ks there index h = grind (arith, some_put, some_total, number_from)
 
   abbrev Told : Update → Type 0
-  Told e = (place : ℕ) → place < length d.aggregates
-      → aggregate (aggregate_at d.aggregates place) (numbers_for place (puts_of e.keys us))
-      ≡ Some (put_number place e)
+  Told e = (index : ℕ) → index < length d.aggregates
+      → aggregate (aggregate_at d.aggregates index) (numbers_for index (puts_of e.keys us))
+      ≡ Some (put_number index e)
 
   abbrev pub made : List Update
   made = map entry (once_lists us)

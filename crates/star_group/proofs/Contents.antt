@@ -1,11 +1,5 @@
 -- From the rows of a map to the content of a store.
-use Rattle.star_group.proofs.Common.{map, filter, list_any, padded, vary, key_eq, key_view, is_one_of, is_row_key, Entry, Row, RowKey, ◌≡◌, ◌⊎◌, ℕ, ◌<◌, ◌≤◌, Bool, true, false, ℤ, List, [], ◌∷◌, Option, Some, None, Result, Ok, Err, OnOk, IfOk, length, get_or, replicate, ap, sym, ◌∙◌, subst, refl, cond, arith, inl, inr, true≢false, unwrap_or, false_from_ne_true}
-use Rattle.star_group.proofs.Common.{Aggregate, IsMasked, aggregate, is_grouping, members, numbers_for, key_value_cmp, IsOwn, leaves, Update, overflows, aggregate_at, overflow_somewhere, somewhere_overflows, held, AreGrouped, HasAggregates, IsRowOver, puts_in, row_found}
-use Rattle.star_group.proofs.Common.{EagerStore, KeyPart, entries_of, is_of_put, IsMerged, IsRowOfOnePut, MergeLeaves, MergeStays, cell_of_one_put, merged, merged_at, AllStay, MergesAll, PutsRows, SomeLeaves, Group, put_number}
-use Rattle.star_group.proofs.GroupKeys.{all_members, any_kept, in_places, masked_length, members_at, of_put, own_belongs, put_belongs}
-use Rattle.star_group.proofs.Merging.{held_none, held_one, merged_comm, merged_more, no_puts}
-use Rattle.star_group.proofs.{Bases.more_over, Totals.declared, Totals.some_aggregate}
-use Rattle.star_group.specs.Eager.{group_view, Has}
+use Rattle.star_group.{proofs.Common.{map, filter, list_any, padded, vary, key_eq, key_view, is_one_of, is_row_key, Entry, Row, RowKey, ◌≡◌, ◌⊎◌, ℕ, ◌<◌, ◌≤◌, Bool, true, false, ℤ, List, [], ◌∷◌, Option, Some, None, Result, Ok, Err, OnOk, IfOk, length, get_or, replicate, ap, sym, ◌∙◌, subst, refl, cond, arith, inl, inr, true≢false, unwrap_or, false_from_ne_true, Aggregate, IsMasked, aggregate, is_grouping, members, numbers_for, key_value_cmp, IsOwn, leaves, Update, overflows, aggregate_at, overflow_somewhere, somewhere_overflows, held, AreGrouped, HasAggregates, IsRowOver, puts_in, row_found, EagerStore, KeyPart, entries_of, is_of_put, IsMerged, IsRowOfOnePut, MergeLeaves, MergeStays, cell_of_one_put, merged, merged_at, AllStay, MergesAll, PutsRows, SomeLeaves, Group, put_number}, proofs.GroupKeys.{all_members, any_kept, in_slots, masked_length, members_at, of_put, own_belongs, put_belongs}, proofs.Merging.{held_none, held_one, merged_comm, merged_more, no_puts}, proofs.Bases.more_over, proofs.Totals.{declared, some_aggregate}, specs.Eager.{group_view, Has}}
 
 pub on_ok : {T E : Type 0} (P Q : Type 0) (r : Result T E) → (P → Q) → OnOk r P → OnOk r Q
 on_ok P Q (Ok x) f h = f h
@@ -17,10 +11,10 @@ if_ok P Q (Ok x) f h = f x h
 if_ok P Q (Err e) f h = tt
 
 -- what is found has the aggregates of its puts
-found_held : (d : Group) (ws : List Update) (found : Option Row) (place : ℕ)
-    → place < length d.aggregates → IsRowOver d ws found → get_or (unwrap_or found []) place None
-    ≡ held (aggregate_at d.aggregates place) (numbers_for place ws)
-found_held d ws it place h was = grind (arith, held, no_puts, held_none)
+found_held : (d : Group) (ws : List Update) (found : Option Row) (index : ℕ)
+    → index < length d.aggregates → IsRowOver d ws found → get_or (unwrap_or found []) index None
+    ≡ held (aggregate_at d.aggregates index) (numbers_for index ws)
+found_held d ws it index h was = grind (arith, held, no_puts, held_none)
 
 -- ---- one more put
 
@@ -43,42 +37,42 @@ module _ (d : Group) (us : List Update) (u : Update) (row : Row)
           (sym (ap (λ b. cond b (u ∷ puts_in d q us) (puts_in d q us)) e))
           (subst (IsRowOver d (puts_in d q us)) (sym (merges.same q e)) (was.rows q))
 
-  cell_more : (ws : List Update) (cell : Option ℤ) (place : ℕ) → place < length d.aggregates
-      → cell ≡ held (aggregate_at d.aggregates place) (numbers_for place ws)
-      → merged (aggregate_at d.aggregates place) cell (get_or row place None)
-      ≡ aggregate (aggregate_at d.aggregates place) (numbers_for place (u ∷ ws))
-  cell_more ws cell place h is =
-      let g = aggregate_at d.aggregates place in
-      (λ i. merged g (is i) (one place h i))
-      ∙ merged_comm g (held g (numbers_for place ws))
-      (Some (cell_of_one_put g (put_number place u)))
-      ∙ sym (held_one g (put_number place u) (numbers_for place ws))
-      ∙ some_aggregate g (put_number place u) (numbers_for place ws)
+  cell_more : (ws : List Update) (cell : Option ℤ) (index : ℕ) → index < length d.aggregates
+      → cell ≡ held (aggregate_at d.aggregates index) (numbers_for index ws)
+      → merged (aggregate_at d.aggregates index) cell (get_or row index None)
+      ≡ aggregate (aggregate_at d.aggregates index) (numbers_for index (u ∷ ws))
+  cell_more ws cell index h is =
+      let g = aggregate_at d.aggregates index in
+      (λ i. merged g (is i) (one index h i))
+      ∙ merged_comm g (held g (numbers_for index ws))
+      (Some (cell_of_one_put g (put_number index u)))
+      ∙ sym (held_one g (put_number index u) (numbers_for index ws))
+      ∙ some_aggregate g (put_number index u) (numbers_for index ws)
 
   module _ (all : Row) (few : d.count ≤ 6) (total : HasAggregates d us all) where
     abbrev now : RowKey → ℕ → Option ℤ
-    now m place = aggregate (aggregate_at d.aggregates place)
-        (numbers_for place (members key_value_cmp m (u ∷ us)))
+    now m index = aggregate (aggregate_at d.aggregates index)
+        (numbers_for index (members key_value_cmp m (u ∷ us)))
 
     -- a row of a group of the put, and the total
     row_now : (m : RowKey) → is_grouping d.shape m ≡ true → IsMasked m u.keys
-        → (place : ℕ) → place < length d.aggregates
-        → merged_at d.aggregates (unwrap_or (row_found es (in_places 6 m)) []) row place
-        ≡ now m place
-    row_now m grouping masked place h =
-        let q = in_places 6 m in
-        cell_more (puts_in d q us) (get_or (unwrap_or (row_found es q) []) place None) place h
-        (found_held d (puts_in d q us) (row_found es q) place h (was.rows q))
-        ∙ ap (λ ps. aggregate (aggregate_at d.aggregates place) (numbers_for place ps))
+        → (index : ℕ) → index < length d.aggregates
+        → merged_at d.aggregates (unwrap_or (row_found es (in_slots 6 m)) []) row index
+        ≡ now m index
+    row_now m grouping masked index h =
+        let q = in_slots 6 m in
+        cell_more (puts_in d q us) (get_or (unwrap_or (row_found es q) []) index None) index h
+        (found_held d (puts_in d q us) (row_found es q) index h (was.rows q))
+        ∙ ap (λ ps. aggregate (aggregate_at d.aggregates index) (numbers_for index ps))
         (ap (λ ps. u ∷ ps)
         (members_at d m us grouping (masked_length m u.keys masked ∙ fits) few was.fit)
         ∙ sym (ap (λ b. cond b (u ∷ members key_value_cmp m us) (members key_value_cmp m us))
         (own_belongs d m u (inl (grouping, masked)))))
 
-    total_now : (m : RowKey) → m ≡ replicate (length u.keys) None → (place : ℕ)
-        → place < length d.aggregates → merged_at d.aggregates all row place ≡ now m place
-    total_now m e place h = cell_more us (get_or all place None) place h (total place h)
-        ∙ ap (λ ps. aggregate (aggregate_at d.aggregates place) (numbers_for place ps))
+    total_now : (m : RowKey) → m ≡ replicate (length u.keys) None → (index : ℕ)
+        → index < length d.aggregates → merged_at d.aggregates all row index ≡ now m index
+    total_now m e index h = cell_more us (get_or all index None) index h (total index h)
+        ∙ ap (λ ps. aggregate (aggregate_at d.aggregates index) (numbers_for index ps))
         (sym (ap (λ k. members key_value_cmp k (u ∷ us)) (e ∙ ap (λ n. replicate n None) fits)
         ∙ all_members d.count (u ∷ us) (fits, was.fit)))
 
@@ -86,18 +80,18 @@ module _ (d : Group) (us : List Update) (u : Update) (row : Row)
         → overflows d.shape d.aggregates us u ≡ false
     stays_all kept all_stay = false_from_ne_true (overflows d.shape d.aggregates us u) (λ over.
         let l = overflow_somewhere (declared d) us u over in
-        true≢false (sym l.leaves_there ∙ there l.group l.place l.own l.declared))
+        true≢false (sym l.leaves_there ∙ there l.group l.index l.own l.declared))
       where
-        there : (m : RowKey) (place : ℕ) → IsOwn d.shape u.keys m → place < length d.aggregates
-            → leaves (aggregate_at d.aggregates place) (now m place) ≡ false
-        there m place (inl in_row) h = ap (leaves (aggregate_at d.aggregates place))
-            (sym (row_now m in_row.0 in_row.1 place h))
-            ∙ all_stay.stay (in_places 6 m)
+        there : (m : RowKey) (index : ℕ) → IsOwn d.shape u.keys m → index < length d.aggregates
+            → leaves (aggregate_at d.aggregates index) (now m index) ≡ false
+        there m index (inl in_row) h = ap (leaves (aggregate_at d.aggregates index))
+            (sym (row_now m in_row.0 in_row.1 index h))
+            ∙ all_stay.stay (in_slots 6 m)
             (put_belongs d.shape m u.keys in_row.0 (masked_length m u.keys in_row.1)
-            (omega (arith, fits, few)) ∙ own_belongs d m u (inl in_row)) place h
-        there m place (inr e) h =
-            ap (leaves (aggregate_at d.aggregates place)) (sym (total_now m e place h))
-            ∙ kept place h
+            (omega (arith, fits, few)) ∙ own_belongs d m u (inl in_row)) index h
+        there m index (inr e) h =
+            ap (leaves (aggregate_at d.aggregates index)) (sym (total_now m e index h))
+            ∙ kept index h
 
     overflows_some : MergeLeaves d.aggregates all row
         ⊎ SomeLeaves (row_found es) own d.aggregates row
@@ -105,10 +99,10 @@ module _ (d : Group) (us : List Update) (u : Update) (row : Row)
     overflows_some (inl l) = somewhere_overflows (declared d) us u (record {
       group = replicate (length u.keys) None;
       own = inr refl;
-      place = l.place;
+      index = l.index;
       declared = l.declared;
-      leaves_there = ap (leaves (aggregate_at d.aggregates l.place))
-          (sym (total_now (replicate (length u.keys) None) refl l.place l.declared)) ∙ l.over;
+      leaves_there = ap (leaves (aggregate_at d.aggregates l.index))
+          (sym (total_now (replicate (length u.keys) None) refl l.index l.declared)) ∙ l.over;
     })
     overflows_some (inr s) =
         let l = s.leaves in
@@ -116,11 +110,11 @@ module _ (d : Group) (us : List Update) (u : Update) (row : Row)
         somewhere_overflows (declared d) us u (record {
           group = of.keys;
           own = inl (of.grouping, of.masked);
-          place = l.place;
+          index = l.index;
           declared = l.declared;
-          leaves_there = ap (leaves (aggregate_at d.aggregates l.place))
-              (sym (row_now of.keys of.grouping of.masked l.place l.declared)
-              ∙ ap (λ k. merged_at d.aggregates (unwrap_or (row_found es k) []) row l.place)
+          leaves_there = ap (leaves (aggregate_at d.aggregates l.index))
+              (sym (row_now of.keys of.grouping of.masked l.index l.declared)
+              ∙ ap (λ k. merged_at d.aggregates (unwrap_or (row_found es k) []) row l.index)
               (sym of.is)) ∙ l.over;
         })
 
@@ -150,7 +144,8 @@ module _ (s : EagerStore) (u : Update) (gs : List Aggregate) (row : Row)
     -- the keys are those of the rows that the put changes
     pub base_keys : is_one_of keys ≡ is_of_put s.shape u.keys
     base_keys = λ i q. (ap (list_any (key_eq q)) are
-        ∙ any_kept (is_row_key s.shape (length u.keys)) q (vary (length u.keys) (padded 6 u.keys))) i
+        ∙ any_kept (is_row_key s.shape (length u.keys)) q
+        (vary (length u.keys) (padded 6 u.keys))) i
 
     abbrev Puts : (RowKey → Option Row) → Type 0
     Puts new = PutsRows (is_one_of keys) gs row (row_found (entries_of s.rows)) new
@@ -178,4 +173,5 @@ module _ (s : EagerStore) (u : Update) (gs : List Aggregate) (row : Row)
         → overflows (group_view s).shape (group_view s).aggregates us u ≡ false
     put_stays new puts kept us has =
         stays_all (group_view s) us u row one_put fits (entries_of s.rows) has.grouped s.total
-        few_keys has.total (subst (λ g. MergeStays g s.total row) is_gs kept) (puts_own new puts).stay
+        few_keys has.total (subst (λ g. MergeStays g s.total row) is_gs kept)
+        (puts_own new puts).stay

@@ -1,6 +1,5 @@
 -- Flat lists cut into rows.
-use Rattle.star_group.proofs.Common.{◌≡◌, ℕ, zero, suc, ◌+◌, ◌*◌, ◌<◌, ◌≤◌, List, [], ◌∷◌, ◌++◌, length, get_or, set, take, drop, ap, sym, ◌∙◌, arith, put_mid, drop-append-le, drop_at, drop-drop, get_or-drop, get_or-take, length-drop, length-take-le, take-append-drop}
-use Rattle.star_group.proofs.Common.{take-append-le, take_all, take_at, drop-put_mid, take-put_mid, mul-le-mul_right, suc-mul, zero-mul, cut_at}
+use Rattle.star_group.proofs.Common.{◌≡◌, ℕ, zero, suc, ◌+◌, ◌*◌, ◌<◌, ◌≤◌, List, [], ◌∷◌, ◌++◌, length, get_or, set, take, drop, ap, sym, ◌∙◌, arith, put_mid, drop-append-le, drop_at, drop-drop, get_or-drop, get_or-take, length-drop, length-take-le, take-append-drop, take-append-le, take_all, take_at, drop-put_mid, take-put_mid, mul-le-mul_right, suc-mul, zero-mul, cut_at}
 use Rattle.star_program.specs.Rows.{cut}
 use Rattle.std.proofs.lemmas.Grind.{common_steps}
 
@@ -100,15 +99,15 @@ module _ {T : Type 0} (w : ℕ) where
     cut_put k row e is =
         grind (arith, put_pieces, cut_set, old, after, length-take-le, room, old_wide, pieces)
 
--- ---- a place of a row
+-- ---- a position of a row
 
-pub place_read : {X : Type 0} (w n : ℕ) (items : List X) (number place : ℕ) (d : X) → number < n
-    → place < w
-    → get_or items (number * w + place) d ≡ get_or (get_or (cut w n items) number []) place d
-place_read w n items number place d there within = grind (arith, cut_at, get_or-take, get_or-drop)
+pub index_read : {X : Type 0} (w n : ℕ) (items : List X) (number index : ℕ) (d : X) → number < n
+    → index < w
+    → get_or items (number * w + index) d ≡ get_or (get_or (cut w n items) number []) index d
+index_read w n items number index d there within = grind (arith, cut_at, get_or-take, get_or-drop)
 
--- `n` rows have room for each place of each of them
-pub place_within : (w n number place : ℕ) → number < n → place < w → number * w + place < n * w
-place_within w n number place there within =
+-- `n` rows have room for each position of each of them
+pub index_within : (w n number index : ℕ) → number < n → index < w → number * w + index < n * w
+index_within w n number index there within =
     let rows : (number + 1) * w ≤ n * w = mul-le-mul_right w (omega (arith, there)) in
     omega (arith, rows, within)

@@ -1,10 +1,6 @@
 -- Numbers of puts, joined by an operation: by key lists first, or all at once.
-use Rattle.star_group.proofs.Common.{◌≡◌, Bool, true, false, ◌&&◌, ◌||◌, ℤ, List, [], ◌∷◌, Option, Some, None, map, cond, ap, sym, ◌∙◌, refl, true≢false, list_any, AllByRecursion, IsDistinct, filter, and-false, list_any_none, IsDistinct-head, IsDistinct-tail, joined}
-use Rattle.star_group.proofs.Common.{KeyValue, same_keys, Update, key_lists}
-use Rattle.star_group.proofs.{KeyLists.keys_decide, KeyLists.keys_equiv, Totals.joined_none, Totals.joined_some}
-use Rattle.std.proofs.Common.{arith}
-use Rattle.std.proofs.lemmas.Grind.{common_steps}
-use Rattle.std.proofs.lemmas.Int.{ints}
+use Rattle.star_group.proofs.{Common.{◌≡◌, Bool, true, false, ◌&&◌, ◌||◌, ℤ, List, [], ◌∷◌, Option, Some, None, map, cond, ap, sym, ◌∙◌, refl, true≢false, list_any, AllByRecursion, IsDistinct, filter, and-false, list_any_none, IsDistinct-head, IsDistinct-tail, joined, KeyValue, same_keys, Update, key_lists}, KeyLists.{keys_decide, keys_equiv}, Totals.{joined_none, joined_some}}
+use Rattle.std.proofs.{Common.arith, lemmas.Grind.common_steps, lemmas.Int.ints}
 
 -- tests that pick out the puts with a key list, and those with one of others
 module _ (k : List KeyValue) (kss : List (List KeyValue))

@@ -1,7 +1,5 @@
 -- The key lists of puts.
-use Rattle.star_group.proofs.Common.{◌≡◌, Bool, true, false, ◌||◌, List, [], ◌∷◌, cond, sym, refl, true≢false, Decides, IsEquivalence, lists_equiv, list_any, Contains, slice_eq-Decides, Contains-from_any, list_any-from_Contains, contains_mapped, from_contains_map, laws-law, KeyValue, same_keys}
-use Rattle.star_group.proofs.Common.{Update, key_lists, puts_of}
-use Rattle.star_group.proofs.GroupKeys.{value_decides}
+use Rattle.star_group.proofs.{Common.{◌≡◌, Bool, true, false, ◌||◌, List, [], ◌∷◌, cond, sym, refl, true≢false, Decides, IsEquivalence, lists_equiv, list_any, Contains, slice_eq-Decides, Contains-from_any, list_any-from_Contains, contains_mapped, from_contains_map, laws-law, KeyValue, same_keys, Update, key_lists, puts_of}, GroupKeys.value_decides}
 
 pub keys_equiv : IsEquivalence same_keys
 keys_equiv = lists_equiv laws-law

@@ -1,15 +1,7 @@
 -- Rows in flat storage with their keys: what stands at a number, one row more, and one changed.
-use Rattle.star_group.proofs.Common.{Entry, Row, RowKey, ◌≡◌, ◌⊎◌, inl, inr, cases_lt, get_or-map, is_some, ℕ, zero, suc, ◌<◌, ◌≤◌, true, false, List, [], ◌∷◌, ◌++◌, Option, Some, None, Result, Ok, Err, OnOk, cond, length, get_or, get_or-set_same, set, slice_get, map, take, drop, ap, sym, ◌∙◌, subst, refl, arith, true≢false}
-use Rattle.star_group.proofs.Common.{AllByRecursion, filter, list_any, keys_of, lookup, get_or-take, length-map, length-set, take_at, lookup_from_place, place_from_lookup, slice_get-get_or, slice_get-map, slice_get_within, KeyValue, KeyPart, All, KeyedRows, key_view, row_found}
-use Rattle.star_group.proofs.Common.{key_value_view, entries_of, all_rolled_up, filled, key_eq, padded, vary, AreOnce, shown_entries, IsMerged, IsMergedAt, IsWithRow, Aggregate, Shape, option_map, unwrap_or, with_items, and_parts, false_from_ne_true, list_any-from_Contains, contains_mapped}
-use Rattle.star_group.proofs.Common.{of_each, AreNarrow, IsNarrow, is_row_key, IsHeld, IsMissing, keys_in, IsDistinct-push, get_or_from_slice_get, append_assoc, cut, append-nil}
-use Rattle.star_group.proofs.GroupKeys.{among_vary, any_kept, in_padded, in_places, key_decides, key_equiv, masked_length}
-use Rattle.star_group.proofs.ListedRows.{key_count, key_wide, keyed_at, length-keyed, narrow_filled, row_count, same}
-use Rattle.star_group.proofs.{Passes.IsOnceAt, Passes.first_of, Passes.found_append}
-use Rattle.std.proofs.lemmas.Map.{Keys.IsDistinct-from_apart, Keys.apart_from_distinct, Made.is_some-lookup}
+use Rattle.star_group.{proofs.Common.{Entry, Row, RowKey, ◌≡◌, ◌⊎◌, inl, inr, cases_lt, get_or-map, is_some, ℕ, zero, suc, ◌<◌, ◌≤◌, true, false, List, [], ◌∷◌, ◌++◌, Option, Some, None, Result, Ok, Err, OnOk, cond, length, get_or, get_or-set_same, set, slice_get, map, take, drop, ap, sym, ◌∙◌, subst, refl, arith, true≢false, AllByRecursion, filter, list_any, keys_of, lookup, get_or-take, length-map, length-set, take_at, lookup_from_place, place_from_lookup, slice_get-get_or, slice_get-map, slice_get_within, KeyValue, KeyPart, All, KeyedRows, key_view, row_found, key_value_view, entries_of, all_rolled_up, filled, key_eq, padded, vary, AreOnce, shown_entries, IsMerged, IsMergedAt, IsWithRow, Aggregate, Shape, option_map, unwrap_or, with_items, and_parts, false_from_ne_true, list_any-from_Contains, contains_mapped, of_each, AreNarrow, IsNarrow, is_row_key, IsHeld, IsMissing, keys_in, IsDistinct-push, get_or_from_slice_get, append_assoc, cut, append-nil}, proofs.GroupKeys.{among_vary, any_kept, in_padded, in_slots, key_decides, key_equiv, masked_length}, proofs.ListedRows.{key_count, key_wide, keyed_at, length-keyed, narrow_filled, row_count, same}, proofs.Passes.{IsOnceAt, first_of, found_append}, specs.declared.keyed.key.KeyPart.TheVariants.{Number, Code}, specs.Keyed.keyed}
+use Rattle.std.{proofs.lemmas.Map.Keys.{IsDistinct-from_apart, apart_from_distinct}, proofs.lemmas.Map.Made.is_some-lookup, specs.List.IsDistinct}
 use Rattle.star_program.specs.declared.key.KeyValue.TheVariants.{Number as KeyNumber, Code as KeyCode}
-use Rattle.std.specs.List.{IsDistinct}
-use Rattle.star_group.specs.{declared.keyed.key.KeyPart.TheVariants.Number, declared.keyed.key.KeyPart.TheVariants.Code, Keyed.keyed}
 
 -- ---- entries, each of whose keys is there once
 
@@ -83,7 +75,7 @@ row_more es k c q new = grind (arith, found_append, row_found, first_of)
 -- a row of a key that no row has
 pub merged_new : (gs : List Aggregate) (es : List Entry)
     (k : List KeyPart) (more row : Row) → row_found es (key_view k) ≡ None
-    → ((place : ℕ) → place < length gs → get_or row place None ≡ get_or more place None)
+    → ((index : ℕ) → index < length gs → get_or row index None ≡ get_or more index None)
     → IsMergedAt gs (key_view k) more es (es ++ (k, row) ∷ [])
 merged_new gs es k more row none all = (
   row,
@@ -124,7 +116,7 @@ once_joined es (f ∷ fs) once others none = subst AreOnce (append_assoc es (f �
     (once_joined (es ++ f ∷ []) fs (once_more es f.0 f.1 none.0 once) others.1
     (all_after es fs f.0 f.1 none.1 others.0))
 
--- ---- keys in six places
+-- ---- keys in six positions
 
 abbrev part_of : Option KeyValue → KeyPart
 part_of None = All
@@ -277,8 +269,8 @@ module _ (rows : KeyedRows) where
       merged_missing (Ok x) gs more fs count is =
           subst (IsMergedAt gs (key_view key) more (entries_of rows)) (sym is)
           (merged_new gs (entries_of rows) key more (take rows.listed.aggregate_count more)
-          row_missing (λ place h.
-          get_or-take rows.listed.aggregate_count more place None (omega (arith, h, count))))
+          row_missing (λ index h.
+          get_or-take rows.listed.aggregate_count more index None (omega (arith, h, count))))
 
 -- ---- keys past whose parts there is ALL
 
@@ -286,21 +278,21 @@ all_of : ℕ → List KeyPart
 all_of zero = []
 all_of (suc n) = All ∷ all_of n
 
-narrow_of : (n w : ℕ) (ps : List KeyPart) (m : RowKey) → key_view ps ≡ in_places n m
+narrow_of : (n w : ℕ) (ps : List KeyPart) (m : RowKey) → key_view ps ≡ in_slots n m
     → length m ≤ w → drop w ps ≡ drop w (all_of n)
-unfolding in_places all_of
+unfolding in_slots all_of
 narrow_of zero w [] m e h = refl
 narrow_of zero w (p ∷ ps) m e h = absurd (let no : ⊥ = cc e in no)
 narrow_of (suc n) w [] [] e h = absurd (let no : ⊥ = cc e in no)
 narrow_of (suc n) w [] (k ∷ m) e h = absurd (let no : ⊥ = cc e in no)
 narrow_of (suc n) zero (p ∷ ps) [] e h =
     let first : key_value_view p ≡ key_value_view All = cc e in
-    let rest : key_view ps ≡ in_places n [] = cc e in
+    let rest : key_view ps ≡ in_slots n [] = cc e in
     λ i. (sym (part_back p) ∙ ap part_of first) i ∷ narrow_of n zero ps [] rest h i
-narrow_of (suc n) (suc w) (p ∷ ps) [] e h = let rest : key_view ps ≡ in_places n [] = cc e in
+narrow_of (suc n) (suc w) (p ∷ ps) [] e h = let rest : key_view ps ≡ in_slots n [] = cc e in
     narrow_of n w ps [] rest (omega arith)
 narrow_of (suc n) zero (p ∷ ps) (k ∷ m) e h = absurd (omega (arith, h))
-narrow_of (suc n) (suc w) (p ∷ ps) (k ∷ m) e h = let rest : key_view ps ≡ in_places n m = cc e in
+narrow_of (suc n) (suc w) (p ∷ ps) (k ∷ m) e h = let rest : key_view ps ≡ in_slots n m = cc e in
     narrow_of n w ps m rest (omega (arith, h))
 
 pub base_narrow : (w : ℕ) (ps : List KeyPart) (ks : List KeyValue) → key_view ps ≡ padded 6 ks

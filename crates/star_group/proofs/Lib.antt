@@ -25,7 +25,7 @@ pub mod KeyedRows
 pub mod MergedRows
 pub mod AllRows
 pub mod Worked
-pub mod SpanPlaces
+pub mod SpanIds
 pub mod ArrayCells
 pub mod ArrayRows
 pub mod ArrayListing

@@ -1,9 +1,6 @@
 -- What stands at a number in rows that nothing finds by their keys.
-use Rattle.star_group.proofs.Common.{Entry, Row, ◌≡◌, ◌≤◌, ◌<◌, ◌+◌, ◌++◌, ◌∷◌, ◌∙◌, ℕ, zero, suc, List, [], None, Some, ap, arith, drop, get_or, length, refl, slice_get, sym, take, ⊎_elim, AllByRecursion, get_or_past, length-take-le, cases_lt, get_or_from_slice_get, slice_get_within}
-use Rattle.star_group.proofs.Common.{key_value_view, key_view, KeyPart, ListedRows, listed_entries, all_rolled_up, filled, length-cut, take-append-drop, drop_at}
+use Rattle.star_group.{proofs.Common.{Entry, Row, ◌≡◌, ◌≤◌, ◌<◌, ◌+◌, ◌++◌, ◌∷◌, ◌∙◌, ℕ, zero, suc, List, [], None, Some, ap, arith, drop, get_or, length, refl, slice_get, sym, take, ⊎_elim, AllByRecursion, get_or_past, length-take-le, cases_lt, get_or_from_slice_get, slice_get_within, key_value_view, key_view, KeyPart, ListedRows, listed_entries, all_rolled_up, filled, length-cut, take-append-drop, drop_at}, specs.Keyed.keyed, proofs.CutRows.{cut_one, cut_wide, cut_append}}
 use Rattle.star_program.specs.Rows.{cut}
-use Rattle.star_group.specs.Keyed.{keyed}
-use Rattle.star_group.proofs.CutRows.{cut_one, cut_wide, cut_append}
 
 -- ---- keys beside rows
 
@@ -14,9 +11,8 @@ length-keyed [] cs e = refl
 length-keyed (k ∷ ks) [] e = absurd (omega (arith, e))
 length-keyed (k ∷ ks) (c ∷ cs) e = ap suc (length-keyed ks cs (omega (arith, e)))
 
-pub keyed_at : (ks : List (List KeyPart)) (cs : List Row) (i : ℕ)
-    → length ks ≡ length cs → i < length ks
-    → get_or (keyed ks cs) i ([], []) ≡ (filled (get_or ks i []), get_or cs i [])
+pub keyed_at : (ks : List (List KeyPart)) (cs : List Row) (i : ℕ) → length ks ≡ length cs
+    → i < length ks → get_or (keyed ks cs) i ([], []) ≡ (filled (get_or ks i []), get_or cs i [])
 unfolding keyed
 keyed_at [] cs i e h = absurd (omega (arith, h))
 keyed_at (k ∷ ks) [] i e h = absurd (omega (arith, e))
@@ -40,12 +36,11 @@ pub no_entries : (w m n : ℕ) (ps : List KeyPart) (ns : Row) → n ≡ 0
     → keyed (cut w n ps) (cut m n ns) ≡ []
 no_entries w m n ps ns e = ap (λ k. keyed (cut w k ps) (cut m k ns)) e ∙ none_keyed w m ps ns
 
--- ---- keys in six places
+-- ---- keys in six positions
 
--- a key in six places is its first parts, where past them there is ALL
-pub narrow_filled : (w : ℕ) (key : List KeyPart) → w ≤ length key → drop w key
-    ≡ drop w all_rolled_up
-    → filled (take w key) ≡ key
+-- a key in six positions is its first parts, where past them there is ALL
+pub narrow_filled : (w : ℕ) (key : List KeyPart) → w ≤ length key
+    → drop w key ≡ drop w all_rolled_up → filled (take w key) ≡ key
 narrow_filled w key few narrow =
     ap (λ n. take w key ++ drop n all_rolled_up) (length-take-le w key few)
     ∙ ap (λ ps. take w key ++ ps) (sym narrow) ∙ take-append-drop w key
@@ -57,19 +52,19 @@ filled_narrow w key long =
 
 -- past a key's own parts there is none
 none_past : (parts : List KeyPart) → AllByRecursion (λ p. key_value_view p ≡ None) parts
-    → (n place : ℕ) → get_or (key_view (drop n parts)) place None ≡ None
-none_past [] h zero place = refl
-none_past [] h (suc n) place = refl
+    → (n index : ℕ) → get_or (key_view (drop n parts)) index None ≡ None
+none_past [] h zero index = refl
+none_past [] h (suc n) index = refl
 none_past (p ∷ parts) h zero zero = h.0
-none_past (p ∷ parts) h zero (suc place) = none_past parts h.1 zero place
-none_past (p ∷ parts) h (suc n) place = none_past parts h.1 n place
+none_past (p ∷ parts) h zero (suc index) = none_past parts h.1 zero index
+none_past (p ∷ parts) h (suc n) index = none_past parts h.1 n index
 
-part_filled : (n : ℕ) (parts : List KeyPart) (place : ℕ) → get_or (key_view parts) place None
-    ≡ get_or (key_view (parts ++ drop n all_rolled_up)) place None
-part_filled n [] place =
-    sym (none_past all_rolled_up (refl, (refl, (refl, (refl, (refl, (refl, tt)))))) n place)
+part_filled : (n : ℕ) (parts : List KeyPart) (index : ℕ) → get_or (key_view parts) index None
+    ≡ get_or (key_view (parts ++ drop n all_rolled_up)) index None
+part_filled n [] index =
+    sym (none_past all_rolled_up (refl, (refl, (refl, (refl, (refl, (refl, tt)))))) n index)
 part_filled n (p ∷ parts) zero = refl
-part_filled n (p ∷ parts) (suc place) = part_filled n parts place
+part_filled n (p ∷ parts) (suc index) = part_filled n parts index
 
 -- ---- the rows
 
@@ -112,19 +107,18 @@ module _ (rows : ListedRows) where
       (sym (get_or_from_slice_get (listed_entries rows) number e ([], []) at)
       ∙ entry_at number there) ∙ cells_wide number there
 
-  -- what a row has at a place
+  -- what a row has at a position
   by_number : {P : ℕ → Type 0} → ((number : ℕ) → number < length (listed_entries rows) → P number)
       → ((number : ℕ) → length (listed_entries rows) ≤ number → P number) → (number : ℕ) → P number
   by_number {P} there past number = ⊎_elim {C = P number} (there number) (past number)
       (cases_lt number (length (listed_entries rows)))
 
-  pub part_at : (number place : ℕ) → get_or (key_view (get_or ks number [])) place None
-      ≡ get_or (key_view (get_or (listed_entries rows) number ([], [])).0) place None
-  part_at number place =
+  pub part_at : (number index : ℕ) → get_or (key_view (get_or ks number [])) index None
+      ≡ get_or (key_view (get_or (listed_entries rows) number ([], [])).0) index None
+  part_at number index =
       grind (arith, by_number, part_filled, entry_at, get_or_past, row_count, key_count)
 
-  pub row_at : (number : ℕ) → get_or cs number []
-      ≡ (get_or (listed_entries rows) number ([], [])).1
+  pub row_at : (number : ℕ) → get_or cs number [] ≡ (get_or (listed_entries rows) number ([], [])).1
   row_at number = grind (arith, by_number, entry_at, get_or_past, row_count, key_count, same)
 
   -- more rows

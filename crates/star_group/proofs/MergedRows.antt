@@ -1,8 +1,5 @@
 -- One more row merged into those of some keys.
-use Rattle.star_group.proofs.Common.{Entry, Row, RowKey, ◌≡◌, ◌⊎◌, inl, inr, ℕ, zero, suc, ◌+◌, ◌<◌, Bool, true, false, ◌||◌, List, [], ◌∷◌, Option, Some, None, length, get_or, take, map, MatchBool, ap, sym, ◌∙◌, subst, refl, true≢false, arith, list_any, IsDistinct, unwrap_or, get_or-map, length-map}
-use Rattle.star_group.proofs.Common.{list_any_at, list_any_more, apart_from_distinct, IsDistinct-tail, or_parts, Aggregate, KeyPart, KeyedRows, key_view, row_found, key_eq, IsMergedAt, IsMergedInto, MergeLeaves, MergeStays, RowsStay, AreNarrow, HasSpace, IsNarrow}
-use Rattle.star_group.proofs.Common.{mul-le-mul_right, get_or_default, at_each, ◌≤◌, AllStay, MergesAll, SomeLeaves}
-use Rattle.star_group.proofs.{Bases.base_row, Bases.other_row, GroupKeys.key_decides, GroupKeys.key_equiv}
+use Rattle.star_group.proofs.{Common.{Entry, Row, RowKey, ◌≡◌, ◌⊎◌, inl, inr, ℕ, zero, suc, ◌+◌, ◌<◌, Bool, true, false, ◌||◌, List, [], ◌∷◌, Option, Some, None, length, get_or, take, map, MatchBool, ap, sym, ◌∙◌, subst, refl, true≢false, arith, list_any, IsDistinct, unwrap_or, get_or-map, length-map, list_any_at, list_any_more, apart_from_distinct, IsDistinct-tail, or_parts, Aggregate, KeyPart, KeyedRows, key_view, row_found, key_eq, IsMergedAt, IsMergedInto, MergeLeaves, MergeStays, RowsStay, AreNarrow, HasSpace, IsNarrow, mul-le-mul_right, get_or_default, at_each, ◌≤◌, AllStay, MergesAll, SomeLeaves}, Bases.{base_row, other_row}, GroupKeys.{key_decides, key_equiv}}
 
 -- ---- one more key of a list without repeats
 
@@ -58,9 +55,8 @@ module _ (own : List RowKey) (i : ℕ) (key : RowKey)
 
   module _ (gs : List Aggregate) (more : Row) where
     -- whether the row at i stays tells whether those of the first i + 1 keys do
-    pub told_more : (look : RowKey → Option Row)
-        → AllStay look (among (take i own)) gs more → (stays : Bool)
-        → MatchBool stays (MergeStays gs (unwrap_or (look key) []) more)
+    pub told_more : (look : RowKey → Option Row) → AllStay look (among (take i own)) gs more
+        → (stays : Bool) → MatchBool stays (MergeStays gs (unwrap_or (look key) []) more)
         (MergeLeaves gs (unwrap_or (look key) []) more)
         → MatchBool stays (AllStay look (among (take (i + 1) own)) gs more)
         (SomeLeaves look (among own) gs more)

@@ -1,10 +1,6 @@
 -- Aggregates over puts where some pass one test and the others another.
-use Rattle.star_group.proofs.Common.{Row, ◌≡◌, ℕ, Bool, true, false, ◌&&◌, ◌||◌, ℤ, pos, List, [], ◌∷◌, Option, Some, None, cond, ap, sym, ◌∙◌, refl, subst, true≢false, list_any, filter, AllByRecursion, Aggregate, Sum, Count, Min, Max, numbers_for, HasAggregates, IsRowOver, step, has_puts}
-use Rattle.star_group.proofs.Common.{merged_total, cell_of_one_put, merged, IsMerged, IsMergedInto, IsRowOfOnePut, Update, aggregate_at, Group, put_number, Contains, Any-from_list_any, list_any-from_Any}
-use Rattle.star_group.specs.Cells.{held}
-use Rattle.star_group.proofs.ContentByKeys.{plus_comm, plus_assoc, least_comm, least_assoc, greatest_comm, greatest_assoc}
-use Rattle.std.proofs.Common.{arith}
-use Rattle.std.proofs.lemmas.Int.{ints}
+use Rattle.star_group.{proofs.Common.{Row, ◌≡◌, ℕ, Bool, true, false, ◌&&◌, ◌||◌, ℤ, pos, List, [], ◌∷◌, Option, Some, None, cond, ap, sym, ◌∙◌, refl, subst, true≢false, list_any, filter, AllByRecursion, Aggregate, Sum, Count, Min, Max, numbers_for, HasAggregates, IsRowOver, step, has_puts, merged_total, cell_of_one_put, merged, IsMerged, IsMergedInto, IsRowOfOnePut, Update, aggregate_at, Group, put_number, Contains, Any-from_list_any, list_any-from_Any}, specs.Cells.held, proofs.ContentByKeys.{plus_comm, plus_assoc, least_comm, least_assoc, greatest_comm, greatest_assoc}}
+use Rattle.std.proofs.{Common.arith, lemmas.Int.ints}
 
 -- ---- the operations
 
@@ -68,30 +64,30 @@ has_put t us u c h = any_filter t us ∙ list_any-from_Any t us (c.0, u, c.1, c.
 abbrev pub AreSplit : (Update → Bool) → (Update → Bool) → (Update → Bool) → List Update → Type 0
 AreSplit ta tb tc us = AllByRecursion (λ u. (tc u ≡ (ta u || tb u)) × ((ta u && tb u) ≡ false)) us
 
-pub held_parts : (g : Aggregate) (place : ℕ) (ta tb tc : Update → Bool) (us : List Update)
-    → AreSplit ta tb tc us → held g (numbers_for place (filter tc us))
-    ≡ merged g (held g (numbers_for place (filter ta us)))
-    (held g (numbers_for place (filter tb us)))
-held_parts g place ta tb tc [] parts =
+pub held_parts : (g : Aggregate) (index : ℕ) (ta tb tc : Update → Bool) (us : List Update)
+    → AreSplit ta tb tc us → held g (numbers_for index (filter tc us))
+    ≡ merged g (held g (numbers_for index (filter ta us)))
+    (held g (numbers_for index (filter tb us)))
+held_parts g index ta tb tc [] parts =
     held_none g ∙ (λ i. merged g (sym (held_none g) i) (sym (held_none g) i))
-held_parts g place ta tb tc (u ∷ us) parts =
-    ap (λ b. held g (numbers_for place (cond b (u ∷ filter tc us) (filter tc us)))) parts.0.0
-    ∙ by (ta u) (tb u) parts.0.1 (held_parts g place ta tb tc us parts.1)
+held_parts g index ta tb tc (u ∷ us) parts =
+    ap (λ b. held g (numbers_for index (cond b (u ∷ filter tc us) (filter tc us)))) parts.0.0
+    ∙ by (ta u) (tb u) parts.0.1 (held_parts g index ta tb tc us parts.1)
   where
     one : Option ℤ
-    one = Some (cell_of_one_put g (put_number place u))
+    one = Some (cell_of_one_put g (put_number index u))
 
     over : (Update → Bool) → Option ℤ
-    over t = held g (numbers_for place (filter t us))
+    over t = held g (numbers_for index (filter t us))
 
     more : (t : Update → Bool)
-        → held g (numbers_for place (u ∷ filter t us)) ≡ merged g one (over t)
-    more t = held_one g (put_number place u) (numbers_for place (filter t us))
+        → held g (numbers_for index (u ∷ filter t us)) ≡ merged g one (over t)
+    more t = held_one g (put_number index u) (numbers_for index (filter t us))
 
     by : (x y : Bool) → (x && y) ≡ false → over tc ≡ merged g (over ta) (over tb)
-        → held g (numbers_for place (cond (x || y) (u ∷ filter tc us) (filter tc us)))
-        ≡ merged g (held g (numbers_for place (cond x (u ∷ filter ta us) (filter ta us))))
-        (held g (numbers_for place (cond y (u ∷ filter tb us) (filter tb us))))
+        → held g (numbers_for index (cond (x || y) (u ∷ filter tc us) (filter tc us)))
+        ≡ merged g (held g (numbers_for index (cond x (u ∷ filter ta us) (filter ta us))))
+        (held g (numbers_for index (cond y (u ∷ filter tb us) (filter tb us))))
     by true true never e = absurd (true≢false never)
     by true false never e = more tc ∙ ap (merged g one) e
         ∙ sym (merged_assoc g one (over ta) (over tb))
@@ -107,13 +103,13 @@ held_parts g place ta tb tc (u ∷ us) parts =
 -- the row of one put
 pub row_of_one : (d : Group) (u : Update) (row : Row)
     → IsRowOfOnePut d.aggregates u.values row → HasAggregates d (u ∷ []) row
-row_of_one d u row is place h = grind (arith, held_one, merged, held_none)
+row_of_one d u row is index h = grind (arith, held_one, merged, held_none)
 
 -- one put more
 pub merged_more : (d : Group) (u : Update) (us : List Update) (held_row row new : Row)
     → IsRowOfOnePut d.aggregates u.values row → HasAggregates d us held_row
     → IsMerged d.aggregates held_row row new → HasAggregates d (u ∷ us) new
-merged_more d u us held_row row new one so_far is place h =
+merged_more d u us held_row row new one so_far is index h =
     grind (arith, merged, one, merged_comm, held_one)
 
 pub no_puts : (us : List Update) → has_puts us ≡ false → us ≡ []
@@ -146,19 +142,19 @@ over_parts d us ta tb tc found new more parts was adds merges = by found was mer
         → IsMergedInto d.aggregates more found new → IsRowOver d (filter tc us) new
     by None was m = subst (IsRowOver d (filter tc us)) (sym m.1) (
       there,
-      λ place h. m.2 place h ∙ adds.1 place h
-          ∙ sym (held_parts (aggregate_at d.aggregates place) place ta tb tc us parts
-          ∙ ap (λ ps. merged (aggregate_at d.aggregates place)
-          (held (aggregate_at d.aggregates place) (numbers_for place ps))
-          (held (aggregate_at d.aggregates place) (numbers_for place (filter tb us))))
+      λ index h. m.2 index h ∙ adds.1 index h
+          ∙ sym (held_parts (aggregate_at d.aggregates index) index ta tb tc us parts
+          ∙ ap (λ ps. merged (aggregate_at d.aggregates index)
+          (held (aggregate_at d.aggregates index) (numbers_for index ps))
+          (held (aggregate_at d.aggregates index) (numbers_for index (filter tb us))))
           (no_puts (filter ta us) was)
-          ∙ ap (λ r. merged (aggregate_at d.aggregates place) r
-          (held (aggregate_at d.aggregates place) (numbers_for place (filter tb us))))
-          (held_none (aggregate_at d.aggregates place))),
+          ∙ ap (λ r. merged (aggregate_at d.aggregates index) r
+          (held (aggregate_at d.aggregates index) (numbers_for index (filter tb us))))
+          (held_none (aggregate_at d.aggregates index))),
     )
     by (Some row) was m = subst (IsRowOver d (filter tc us)) (sym m.1) (
       there,
-      λ place h. m.2 place h ∙ (λ i.
-          merged (aggregate_at d.aggregates place) (was.1 place h i) (adds.1 place h i))
-          ∙ sym (held_parts (aggregate_at d.aggregates place) place ta tb tc us parts),
+      λ index h. m.2 index h ∙ (λ i.
+          merged (aggregate_at d.aggregates index) (was.1 index h i) (adds.1 index h i))
+          ∙ sym (held_parts (aggregate_at d.aggregates index) index ta tb tc us parts),
     )

@@ -1,9 +1,6 @@
 -- Where the sums by key list add up within 128 bits and the counts within 64, no put overflows.
-use Rattle.star_group.proofs.Common.{◌≡◌, ℕ, ◌<◌, ◌≤◌, ◌^◌, Bool, true, false, ℤ, pos, negsuc, ◌+ℤ◌, ◌≤ℤ◌, List, [], ◌∷◌, Some, length, cond, ap, sym, ◌∙◌, refl, true≢false, arith, ints, false_from_ne_true, lt-ltb, count_by-le-length, length-filter, filter, Aggregate}
-use Rattle.star_group.proofs.Common.{Sum, Count, Min, Max, aggregate, belongs, joined, numbers_for, KeyValue, key_value_cmp, leaves, Update, overflows, aggregate_at, overflow_somewhere, Group, put_number, HasRoom}
-use Rattle.star_group.proofs.{ContentByKeys.length-numbers, ContentByKeys.sums, ContentMade.made, ContentMade.made_content, JoinedParts.joined_more, JoinedParts.more, Totals.declared, Totals.some_aggregate}
+use Rattle.star_group.{proofs.Common.{◌≡◌, ℕ, ◌<◌, ◌≤◌, ◌^◌, Bool, true, false, ℤ, pos, negsuc, ◌+ℤ◌, ◌≤ℤ◌, List, [], ◌∷◌, Some, length, cond, ap, sym, ◌∙◌, refl, true≢false, arith, ints, false_from_ne_true, lt-ltb, count_by-le-length, length-filter, filter, Aggregate, Sum, Count, Min, Max, aggregate, belongs, joined, numbers_for, KeyValue, key_value_cmp, leaves, Update, overflows, aggregate_at, overflow_somewhere, Group, put_number, HasRoom}, proofs.ContentByKeys.{length-numbers, sums}, proofs.ContentMade.{made, made_content}, proofs.JoinedParts.{joined_more, more}, proofs.Totals.{declared, some_aggregate}, specs.Cells.held, specs.Stores.{above_zero, below_zero}}
 use Rattle.star_interval.specs.Range.{is_i64, is_i128}
-use Rattle.star_group.specs.{Cells.held, Stores.above_zero, Stores.below_zero}
 use Rattle.std.proofs.lemmas.Grind.{common_steps}
 
 abbrev all_of : List ℤ → ℤ
@@ -43,16 +40,16 @@ unfolding above_zero below_zero
 fewer_without (pos n) vs ws h = record { above = omega arith; below = h.below }
 fewer_without (negsuc n) vs ws h = record { above = h.above; below = omega arith }
 
-fewer_kept : (p : Update → Bool) (place : ℕ) (es : List Update)
-    → Fewer (numbers_for place (filter p es)) (numbers_for place es)
-fewer_kept p place [] = record { above = omega arith; below = omega arith }
-fewer_kept p place (e ∷ es) = by (p e) (fewer_kept p place es)
+fewer_kept : (p : Update → Bool) (index : ℕ) (es : List Update)
+    → Fewer (numbers_for index (filter p es)) (numbers_for index es)
+fewer_kept p index [] = record { above = omega arith; below = omega arith }
+fewer_kept p index (e ∷ es) = by (p e) (fewer_kept p index es)
   where
-    by : (b : Bool) → Fewer (numbers_for place (filter p es)) (numbers_for place es)
-        → Fewer (numbers_for place (cond b (e ∷ filter p es) (filter p es)))
-        (put_number place e ∷ numbers_for place es)
-    by true h = fewer_with (put_number place e) _ _ h
-    by false h = fewer_without (put_number place e) _ _ h
+    by : (b : Bool) → Fewer (numbers_for index (filter p es)) (numbers_for index es)
+        → Fewer (numbers_for index (cond b (e ∷ filter p es) (filter p es)))
+        (put_number index e ∷ numbers_for index es)
+    by true h = fewer_with (put_number index e) _ _ h
+    by false h = fewer_without (put_number index e) _ _ h
 
 fits_between : (z : ℤ) (m n : ℕ) → z ≤ℤ pos m → pos 0 ≤ℤ (z +ℤ pos n) → m < 2 ^ 127 → n ≤ 2 ^ 127
     → is_i128 z ≡ true
@@ -68,24 +65,24 @@ count_small n h = lt-ltb n (2 ^ 63) h
 
 -- ---- the puts whose key lists pass a test
 
-module _ (d : Group) (us : List Update) (room : HasRoom d us) (p : List KeyValue → Bool) (place : ℕ)
-    (declared : place < length d.aggregates) where
-  sum_fits : aggregate_at d.aggregates place ≡ Sum → (z : ℤ)
-      → joined (λ x y. x +ℤ y) (numbers_for place (filter (λ w. p w.keys) us)) ≡ Some z
+module _ (d : Group) (us : List Update) (room : HasRoom d us) (p : List KeyValue → Bool) (index : ℕ)
+    (declared : index < length d.aggregates) where
+  sum_fits : aggregate_at d.aggregates index ≡ Sum → (z : ℤ)
+      → joined (λ x y. x +ℤ y) (numbers_for index (filter (λ w. p w.keys) us)) ≡ Some z
       → is_i128 z ≡ true
   sum_fits same z e =
       let es = made d us in
-      let zs = numbers_for place (filter (λ w. p w.keys) es) in
-      let whole = sums d us es (made_content d us) place declared p same ∙ e in
-      let up = room.sums es (made_content d us) place declared same in
-      let less = fewer_kept (λ w. p w.keys) place es in
+      let zs = numbers_for index (filter (λ w. p w.keys) es) in
+      let whole = sums d us es (made_content d us) index declared p same ∙ e in
+      let up = room.sums es (made_content d us) index declared same in
+      let less = fewer_kept (λ w. p w.keys) index es in
       let r = bounded zs in
       ap is_i128 (sum_is zs z whole)
       ∙ fits_between (all_of zs) _ _ r.0 r.1 (omega (arith, less.above, up.above))
       (omega (arith, less.below, up.below))
 
-  stays_at : (g : Aggregate) → aggregate_at d.aggregates place ≡ g
-      → leaves g (aggregate g (numbers_for place (filter (λ w. p w.keys) us))) ≡ false
+  stays_at : (g : Aggregate) → aggregate_at d.aggregates index ≡ g
+      → leaves g (aggregate g (numbers_for index (filter (λ w. p w.keys) us))) ≡ false
   stays_at Sum same = grind (arith, joined, leaves, sum_fits)
   stays_at Count same =
       grind (arith, common_steps, count_small, length-numbers, length-filter, count_by-le-length)
@@ -94,13 +91,13 @@ module _ (d : Group) (us : List Update) (room : HasRoom d us) (p : List KeyValue
 
 -- what is held of them doesn't leave its bits
 pub held_stays : (d : Group) (us : List Update) → HasRoom d us
-    → (p : List KeyValue → Bool) (place : ℕ) → place < length d.aggregates
-    → leaves (aggregate_at d.aggregates place)
-    (held (aggregate_at d.aggregates place) (numbers_for place (filter (λ w. p w.keys) us))) ≡ false
+    → (p : List KeyValue → Bool) (index : ℕ) → index < length d.aggregates
+    → leaves (aggregate_at d.aggregates index)
+    (held (aggregate_at d.aggregates index) (numbers_for index (filter (λ w. p w.keys) us))) ≡ false
 unfolding held
-held_stays d us room p place declared =
-    by (aggregate_at d.aggregates place) (numbers_for place (filter (λ w. p w.keys) us))
-    (stays_at d us room p place declared (aggregate_at d.aggregates place) refl)
+held_stays d us room p index declared =
+    by (aggregate_at d.aggregates index) (numbers_for index (filter (λ w. p w.keys) us))
+    (stays_at d us room p index declared (aggregate_at d.aggregates index) refl)
   where
     by : (g : Aggregate) (vs : List ℤ) → leaves g (aggregate g vs) ≡ false
         → leaves g (held g vs) ≡ false
@@ -115,5 +112,5 @@ pub room_stays : (d : Group) (us : List Update) (u : Update) → HasRoom d (u �
 room_stays d us u room = false_from_ne_true (overflows d.shape d.aggregates us u) (λ over.
     let l = overflow_somewhere (declared d) us u over in
     true≢false (sym l.leaves_there
-    ∙ stays_at d (u ∷ us) room (belongs key_value_cmp l.group) l.place l.declared
-    (aggregate_at d.aggregates l.place) refl))
+    ∙ stays_at d (u ∷ us) room (belongs key_value_cmp l.group) l.index l.declared
+    (aggregate_at d.aggregates l.index) refl))

@@ -1,11 +1,7 @@
 -- Numbers that add up within 128 bits do so by key list too; few numbers of 64 bits do.
-use Rattle.star_group.proofs.Common.{◌≡◌, ℕ, zero, suc, ◌+◌, ◌*◌, ◌<◌, ◌≤◌, ◌^◌, Bool, true, false, ◌&&◌, ◌||◌, ℤ, pos, negsuc, ◌+ℤ◌, List, [], ◌∷◌, Option, Some, None, length, cond, ap, subst, refl, arith, true≢false, slice_index_or, ltb-true, ints, All-head, All-tail}
-use Rattle.star_group.proofs.Common.{IsDistinct-head, IsDistinct-tail, list_any, AllByRecursion, IsDistinct, Sum, numbers_for, same_keys, Update, aggregate_at, Group, IsContent, key_lists, put_number, AddUp, HasRoom}
+use Rattle.star_group.{proofs.Common.{◌≡◌, ℕ, zero, suc, ◌+◌, ◌*◌, ◌<◌, ◌≤◌, ◌^◌, Bool, true, false, ◌&&◌, ◌||◌, ℤ, pos, negsuc, ◌+ℤ◌, List, [], ◌∷◌, Option, Some, None, length, cond, ap, subst, refl, arith, true≢false, slice_index_or, ltb-true, ints, All-head, All-tail, IsDistinct-head, IsDistinct-tail, list_any, AllByRecursion, IsDistinct, Sum, numbers_for, same_keys, Update, aggregate_at, Group, IsContent, key_lists, put_number, AddUp, HasRoom}, specs.Stores.{above_zero, below_zero}, proofs.ContentByKeys.told, proofs.JoinedParts.{flipped, more, no_two, over, over_more}}
 use Rattle.std.specs.Prelude.{All}
 use Rattle.star_interval.specs.Range.{is_i64}
-use Rattle.star_group.specs.Stores.{above_zero, below_zero}
-use Rattle.star_group.proofs.ContentByKeys.{told}
-use Rattle.star_group.proofs.JoinedParts.{flipped, more, no_two, over, over_more}
 
 -- ---- a measure of numbers that is no more for a sum than for its parts together
 
@@ -57,8 +53,7 @@ module _ (size : ℤ → ℕ) (less : (x y : ℤ) → size (x +ℤ y) ≤ size x
 
   pub entries_less : (us es : List Update) → IsDistinct same_keys (key_lists es)
       → AllByRecursion (λ e. over (λ x y. x +ℤ y) number (λ u. same_keys e.keys u.keys) us
-      ≡ Some (number e)) es
-      → weight size number (λ e. true) es ≤ weight size number (λ u. true) us
+      ≡ Some (number e)) es → weight size number (λ e. true) es ≤ weight size number (λ u. true) us
   entries_less us es once each = grind (arith, ints, by_key_lists, at_most, same_keys)
 
 -- ---- above zero, and below
@@ -86,38 +81,38 @@ unfolding above_zero below_zero
 one_more (pos n) zs up down e = (ap (λ m. n + m) e.0, omega (arith, e.1))
 one_more (negsuc n) zs up down e = (omega (arith, e.0), omega (arith, e.1))
 
-sides : (place : ℕ) (us : List Update)
-    → AreSides (numbers_for place us) (weight above (put_number place) (λ u. true) us)
-    (weight below (put_number place) (λ u. true) us)
+sides : (index : ℕ) (us : List Update)
+    → AreSides (numbers_for index us) (weight above (put_number index) (λ u. true) us)
+    (weight below (put_number index) (λ u. true) us)
 unfolding above_zero below_zero
-sides place [] = (refl, refl)
-sides place (u ∷ us) = one_more (put_number place u) (numbers_for place us) _ _ (sides place us)
+sides index [] = (refl, refl)
+sides index (u ∷ us) = one_more (put_number index u) (numbers_for index us) _ _ (sides index us)
 
 pub small_room : (d : Group) (us : List Update)
-    → ((place : ℕ) → place < length d.aggregates → aggregate_at d.aggregates place ≡ Sum
-    → AddUp (numbers_for place us)) → length us < 2 ^ 63 → HasRoom d us
-small_room d us small few = record { sums = sums; counts = λ place h same. few }
+    → ((index : ℕ) → index < length d.aggregates → aggregate_at d.aggregates index ≡ Sum
+    → AddUp (numbers_for index us)) → length us < 2 ^ 63 → HasRoom d us
+small_room d us small few = record { sums = sums; counts = λ index h same. few }
   where
-    sums : (es : List Update) → IsContent d us es → (place : ℕ) → place < length d.aggregates
-        → aggregate_at d.aggregates place ≡ Sum → AddUp (numbers_for place es)
-    sums es is place h same =
-        let each = told d us es is place h Sum same in
-        let up = small place h same in
+    sums : (es : List Update) → IsContent d us es → (index : ℕ) → index < length d.aggregates
+        → aggregate_at d.aggregates index ≡ Sum → AddUp (numbers_for index es)
+    sums es is index h same =
+        let each = told d us es is index h Sum same in
+        let up = small index h same in
         record {
           above = omega (
             arith,
-            (sides place es).0,
-            (sides place us).0,
+            (sides index es).0,
+            (sides index us).0,
             up.above,
-            entries_less above (λ x y. above_sum x y (x +ℤ y) refl) (put_number place) us es
+            entries_less above (λ x y. above_sum x y (x +ℤ y) refl) (put_number index) us es
                 is.once each,
           );
           below = omega (
             arith,
-            (sides place es).1,
-            (sides place us).1,
+            (sides index es).1,
+            (sides index us).1,
             up.below,
-            entries_less below (λ x y. below_sum x y (x +ℤ y) refl) (put_number place) us es
+            entries_less below (λ x y. below_sum x y (x +ℤ y) refl) (put_number index) us es
                 is.once each,
           );
         }
@@ -130,29 +125,29 @@ unfolding is_i64
 narrow_sides (pos n) h = let l = ltb-true n (2 ^ 63) h in (omega (arith, l), omega arith)
 narrow_sides (negsuc n) h = let l = ltb-true n (2 ^ 63) h in (omega arith, omega (arith, l))
 
-narrow_at : (place : ℕ) (vs : List ℤ) → All (λ z. is_i64 z ≡ true) vs
-    → is_i64 (slice_index_or vs place (pos 0)) ≡ true
+narrow_at : (index : ℕ) (vs : List ℤ) → All (λ z. is_i64 z ≡ true) vs
+    → is_i64 (slice_index_or vs index (pos 0)) ≡ true
 unfolding is_i64
-narrow_at place [] all = refl
+narrow_at index [] all = refl
 narrow_at zero (v ∷ vs) all = All-head (λ z. is_i64 z ≡ true) v vs all
-narrow_at (suc place) (v ∷ vs) all = narrow_at place vs (All-tail (λ z. is_i64 z ≡ true) v vs all)
+narrow_at (suc index) (v ∷ vs) all = narrow_at index vs (All-tail (λ z. is_i64 z ≡ true) v vs all)
 
-few_sides : (place : ℕ) (us : List Update) → All (λ u. All (λ z. is_i64 z ≡ true) u.values) us
-    → (above_zero (numbers_for place us) ≤ length us * 2 ^ 63)
-    × (below_zero (numbers_for place us) ≤ length us * 2 ^ 63)
+few_sides : (index : ℕ) (us : List Update) → All (λ u. All (λ z. is_i64 z ≡ true) u.values) us
+    → (above_zero (numbers_for index us) ≤ length us * 2 ^ 63)
+    × (below_zero (numbers_for index us) ≤ length us * 2 ^ 63)
 unfolding above_zero below_zero
-few_sides place [] all = (omega arith, omega arith)
-few_sides place (u ∷ us) all =
-    let here = narrow_sides (put_number place u)
-    (narrow_at place u.values
+few_sides index [] all = (omega arith, omega arith)
+few_sides index (u ∷ us) all =
+    let here = narrow_sides (put_number index u)
+    (narrow_at index u.values
     (All-head (λ (u : Update). All (λ z. is_i64 z ≡ true) u.values) u us all)) in
-    let rest = few_sides place us
+    let rest = few_sides index us
     (All-tail (λ (u : Update). All (λ z. is_i64 z ≡ true) u.values) u us all) in
-    let sides = one_more (put_number place u) (numbers_for place us) _ _ (refl, refl) in
+    let sides = one_more (put_number index u) (numbers_for index us) _ _ (refl, refl) in
     (omega (arith, here.0, rest.0, sides.0), omega (arith, here.1, rest.1, sides.1))
 
 pub few_room : (d : Group) (us : List Update) → All (λ u. All (λ z. is_i64 z ≡ true) u.values) us
     → length us < 2 ^ 63 → HasRoom d us
 few_room d us all few = small_room d us
-    (λ place h same. let sides = few_sides place us all in
+    (λ index h same. let sides = few_sides index us all in
     record { above = omega (arith, sides.0, few); below = omega (arith, sides.1, few) }) few

@@ -1,8 +1,5 @@
 -- Rows found by the digits of their keys: looking one up, and one row more.
-use Rattle.star_group.proofs.Common.{◌≡◌, ℕ, zero, suc, ◌+◌, ◌-◌, ◌*◌, ◌/◌, ◌%◌, ◌^◌, ◌<◌, ◌≤◌, List, [], ◌∷◌, ◌++◌, Bool, true, false, MatchBool, true≢false, length, drop, get_or, set, ap, sym, ◌∙◌, subst, refl, arith, below_more, get_or-set_same}
-use Rattle.star_group.proofs.Common.{get_or-set_other, ◌⊎◌, inl, inr, ⊎_elim, cases_eq, cases_lt, at_drop_more, get_or_append_left, get_or_past, get_or_default, get_or_push, length-append, length-set, ∥∥₁_elim, ∥∥₁_map, KeyPart, All, eq-value, Decides, signed_Decides, unsigned_Decides, pointwise}
-use Rattle.star_group.proofs.Common.{slice_eq-Decides, IsTrie, IsMissing, Leads, child, key_at, part_digit, turn_at, word_with}
-use Rattle.star_group.specs.{declared.keyed.key.KeyPart.TheVariants.Number, declared.keyed.key.KeyPart.TheVariants.Code, Private.Tries.digit_at, Private.Tries.node_at, Private.Tries.word_from}
+use Rattle.star_group.{proofs.Common.{◌≡◌, ℕ, zero, suc, ◌+◌, ◌-◌, ◌*◌, ◌/◌, ◌%◌, ◌^◌, ◌<◌, ◌≤◌, List, [], ◌∷◌, ◌++◌, Bool, true, false, MatchBool, true≢false, length, drop, get_or, set, ap, sym, ◌∙◌, subst, refl, arith, below_more, get_or-set_same, get_or-set_other, ◌⊎◌, inl, inr, ⊎_elim, cases_eq, cases_lt, at_drop_more, get_or_append_left, get_or_past, get_or_default, get_or_push, length-append, length-set, ∥∥₁_elim, ∥∥₁_map, KeyPart, All, eq-value, Decides, signed_Decides, unsigned_Decides, pointwise, slice_eq-Decides, IsTrie, IsMissing, Leads, child, key_at, part_digit, turn_at, word_with}, specs.declared.keyed.key.KeyPart.TheVariants.{Number, Code}, specs.Private.Tries.{digit_at, node_at, word_from}}
 use Rattle.star_program.specs.Rows.{cut}
 use Rattle.std.proofs.lemmas.Grind.{common_steps}
 
@@ -28,11 +25,11 @@ keys_told b ps rs e = grind (arith, slice_eq-Decides, part_decides, true≢false
 -- ---- the digits of a key
 
 -- one part more of the word
-pub word_on : (word : ℕ) (key : List KeyPart) (place : ℕ) → place < length key
-    → word_from word (drop place key)
-    ≡ word_from (word_with word (get_or key place All)) (drop (place + 1) key)
+pub word_on : (word : ℕ) (key : List KeyPart) (index : ℕ) → index < length key
+    → word_from word (drop index key)
+    ≡ word_from (word_with word (get_or key index All)) (drop (index + 1) key)
 unfolding word_from
-word_on word key place h = at_drop_more (word_from word) key place All h
+word_on word key index h = at_drop_more (word_from word) key index All h
 
 pub word_done : (word : ℕ) (key : List KeyPart) (n : ℕ) → length key ≤ n
     → word_from word (drop n key) ≡ word

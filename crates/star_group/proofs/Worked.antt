@@ -1,42 +1,40 @@
--- What cells hold, which rows a put changes, the keys and places of rows, batches, and which numbers
--- add up, by computation; and what each relation says.
-use Rattle.star_group.proofs.Common.{RowKey, ◌≡◌, ◌↔◌, ◌<◌, ◌≤◌, ◌+◌, ◌*◌, ◌^◌, ◌-◌, ◌++◌, ◌||◌, ℕ, true, false, true≢false, ℤ, pos, negsuc, List, [], ◌∷◌, Option, Some, None, arith, length, map, replicate, sym, slice_index_or, refl, Bor, AllByRecursion, IsDistinct, list_any, Gives, Gives2}
-use Rattle.star_group.proofs.Common.{Gives3, PBrand1, Sum, Count, Min, Max, Plain, Cube, Rollup, aggregate, numbers_for, GroupDecl, KeyValue, Number, Code, value_count, same_keys, IsSmall, Update, aggregate_at, PutBatch, Span, IsRowOver, key_value_view, puts_in, puts_with, row_found}
-use Rattle.star_group.proofs.Common.{HasRoomForRows, IsKeyWord, IsPutBatch, batch_keys, key_word, put_in, puts_after, word_in, cell_over, neutral, step, has_puts, IsWithPut, is_of_put, IsOf, cell_place, offset_of, places, AddUp, Group, HasRoom, IsContent, combined, group_declared}
-use Rattle.star_group.proofs.Common.{key_lists, put_number, puts_of}
+-- What cells hold, which rows a put changes, the keys and positions of rows, batches, and which
+-- numbers add up, by computation; and what each relation says.
+use Rattle.star_group.{proofs.Common.{RowKey, ◌≡◌, ◌↔◌, ◌<◌, ◌≤◌, ◌+◌, ◌*◌, ◌^◌, ◌-◌, ◌++◌, ◌||◌, ℕ, true, false, true≢false, ℤ, pos, negsuc, List, [], ◌∷◌, Option, Some, None, arith, length, map, replicate, sym, slice_index_or, refl, Bor, AllByRecursion, IsDistinct, list_any, Gives, Gives2, Gives3, PBrand1, Sum, Count, Min, Max, Plain, Cube, Rollup, aggregate, numbers_for, GroupDecl, KeyValue, Number, Code, value_count, same_keys, IsSmall, Update, aggregate_at, PutBatch, Span, IsRowOver, key_value_view, puts_in, puts_with, row_found, HasRoomForRows, IsKeyWord, IsPutBatch, batch_keys, key_word, put_in, puts_after, word_in, cell_over, neutral, step, has_puts, IsWithPut, is_of_put, IsOf, group_id, offset_of, id_count, AddUp, Group, HasRoom, IsContent, combined, group_declared, key_lists, put_number, puts_of}, specs.BaseKeys.{padded, vary}, specs.Cells.held, specs.OneMore.group_aggregate, specs.Stores.{above_zero, below_zero}}
 use Rattle.std.specs.Prelude.{All}
-use Rattle.star_group.specs.{BaseKeys.padded, BaseKeys.vary, Cells.held, OneMore.group_aggregate, Stores.above_zero, Stores.below_zero}
 use Rattle.star_program.specs.declared.group.GroupKey.TheVariants as declared
 use Rattle.star_group.specs.declared.keyed.key.KeyPart.TheVariants as part
 
 -- ---- cells: over no number, over a greater one and over a lesser one
 
-cells : Gives3 step (
-    (Sum, pos 4, None, pos 4) ∷ (Count, pos 4, None, pos 1) ∷ (Min, pos 4, None, pos 4)
-    ∷ (Max, pos 4, None, pos 4)
-    ∷ (Sum, pos 3, Some (pos 5), pos 8) ∷ (Count, pos 3, Some (pos 5), pos 6)
-    ∷ (Min, pos 3, Some (pos 5), pos 3) ∷ (Max, pos 3, Some (pos 5), pos 5)
-    ∷ (Min, pos 7, Some (pos 5), pos 5) ∷ (Max, pos 7, Some (pos 5), pos 7) ∷ [])
-    × Gives (λ g. held g (pos 4 ∷ negsuc 1 ∷ pos 6 ∷ [])) (
-    (Sum, Some (pos 8)) ∷ (Count, Some (pos 3)) ∷ (Min, Some (negsuc 1)) ∷ (Max, Some (pos 6)) ∷ [])
-    × Gives (λ g. held g []) ((Sum, None) ∷ (Count, None) ∷ (Min, None) ∷ (Max, None) ∷ [])
-    × Gives neutral (
-    (Sum, pos 0) ∷ (Count, pos 0) ∷ (Min, pos (2 ^ 63 - 1)) ∷ (Max, negsuc (2 ^ 63 - 1)) ∷ [])
-    × Gives2 combined (
-    (Sum, pos 4 ∷ pos 6 ∷ [], Some (pos 10)) ∷ (Count, pos 4 ∷ pos 6 ∷ [], Some (pos 10))
-    ∷ (Min, pos 4 ∷ pos 6 ∷ [], Some (pos 4)) ∷ (Max, pos 4 ∷ pos 6 ∷ [], Some (pos 6))
-    ∷ (Count, [], Some (pos 0)) ∷ [])
+cells : Gives3 step ((Sum, pos 4, None, pos 4) ∷ (Count, pos 4, None, pos 1)
+    ∷ (Min, pos 4, None, pos 4) ∷ (Max, pos 4, None, pos 4) ∷ (Sum, pos 3, Some (pos 5), pos 8)
+    ∷ (Count, pos 3, Some (pos 5), pos 6) ∷ (Min, pos 3, Some (pos 5), pos 3)
+    ∷ (Max, pos 3, Some (pos 5), pos 5) ∷ (Min, pos 7, Some (pos 5), pos 5)
+    ∷ (Max, pos 7, Some (pos 5), pos 7) ∷ [])
+    × Gives (λ g. held g (pos 4 ∷ negsuc 1 ∷ pos 6 ∷ []))
+    ((Sum, Some (pos 8)) ∷ (Count, Some (pos 3)) ∷ (Min, Some (negsuc 1)) ∷ (Max, Some (pos 6))
+    ∷ []) × Gives (λ g. held g []) ((Sum, None) ∷ (Count, None) ∷ (Min, None) ∷ (Max, None) ∷ [])
+    × Gives neutral ((Sum, pos 0) ∷ (Count, pos 0) ∷ (Min, pos (2 ^ 63 - 1))
+    ∷ (Max, negsuc (2 ^ 63 - 1)) ∷ [])
+    × Gives2 combined ((Sum, pos 4 ∷ pos 6 ∷ [], Some (pos 10))
+    ∷ (Count, pos 4 ∷ pos 6 ∷ [], Some (pos 10)) ∷ (Min, pos 4 ∷ pos 6 ∷ [], Some (pos 4))
+    ∷ (Max, pos 4 ∷ pos 6 ∷ [], Some (pos 6)) ∷ (Count, [], Some (pos 0)) ∷ [])
 unfolding held
 cells = (refl, refl, refl, refl, refl)
 
--- ---- keys of rows: nothing past the keys, and no place more; the first places vary
+-- ---- keys of rows: nothing past the keys, and no position more; the first positions vary
 
-rows_of_keys : Gives2 padded (
-    (3, Number (pos 7) ∷ Code 2 ∷ [], Some (Number (pos 7)) ∷ Some (Code 2) ∷ None ∷ [])
-    ∷ (1, Number (pos 7) ∷ Code 2 ∷ [], Some (Number (pos 7)) ∷ []) ∷ [])
-    × Gives2 vary ((
+rows_of_keys : Gives2 padded ((
+  3,
+  Number (pos 7) ∷ Code 2 ∷ [],
+  Some (Number (pos 7))
+      ∷ Some (Code 2) ∷ None ∷ [],
+) ∷ (1, Number (pos 7) ∷ Code 2 ∷ [], Some (Number (pos 7)) ∷ [])
+    ∷ []) × Gives2 vary ((
       2,
-      Some (Number (pos 7)) ∷ Some (Code 2) ∷ Some (Code 5) ∷ [],
+      Some (Number (pos 7)) ∷ Some (Code 2) ∷ Some (Code 5)
+          ∷ [],
       (Some (Number (pos 7)) ∷ Some (Code 2) ∷ Some (Code 5) ∷ [])
           ∷ (Some (Number (pos 7)) ∷ None ∷ Some (Code 5) ∷ [])
           ∷ (None ∷ Some (Code 2) ∷ Some (Code 5) ∷ []) ∷ (None ∷ None ∷ Some (Code 5) ∷ []) ∷ [],
@@ -93,15 +91,16 @@ changed : Gives (λ q. is_of_put sales.shape (sale 1 (pos 4)).keys q)
     × (puts_in sales (row_of 1) puts ≡ sale 1 (pos 4) ∷ sale 1 (pos 3) ∷ [])
     × (puts_with (row_of 1) puts ≡ sale 1 (pos 4) ∷ sale 1 (pos 3) ∷ [])
     × Gives has_puts ((puts, true) ∷ ([], false) ∷ [])
-    × Gives2 (λ q place. held (aggregate_at sales.aggregates place)
-    (numbers_for place (puts_in sales q puts))) (
-    (row_of 1, 0, Some (pos 7)) ∷ (row_of 1, 1, Some (pos 4)) ∷ (row_of 3, 0, None) ∷ [])
+    × Gives2 (λ q index. held (aggregate_at sales.aggregates index)
+    (numbers_for index (puts_in sales q puts)))
+    ((row_of 1, 0, Some (pos 7)) ∷ (row_of 1, 1, Some (pos 4)) ∷ (row_of 3, 0, None) ∷ [])
     × (held Sum (numbers_for 0 puts) ≡ Some (pos 12))
-    × Gives key_value_view (
-    (part.All, None) ∷ (part.Number (pos 7), Some (Number (pos 7))) ∷ (part.Code 2, Some (Code 2)) ∷ [])
+    × Gives key_value_view ((part.All, None) ∷ (part.Number (pos 7), Some (Number (pos 7)))
+    ∷ (part.Code 2, Some (Code 2)) ∷ [])
     × Gives (row_found ((part.Code 1 ∷ part.All ∷ [], Some (pos 7) ∷ [])
-    ∷ (part.Code 2 ∷ part.All ∷ [], Some (pos 5) ∷ []) ∷ [])) (
-    (Some (Code 2) ∷ None ∷ [], Some (Some (pos 5) ∷ [])) ∷ (Some (Code 3) ∷ None ∷ [], None) ∷ [])
+    ∷ (part.Code 2 ∷ part.All ∷ [], Some (pos 5) ∷ []) ∷ []))
+    ((Some (Code 2) ∷ None ∷ [], Some (Some (pos 5) ∷ [])) ∷ (Some (Code 3) ∷ None ∷ [], None)
+    ∷ [])
 unfolding padded held vary
 changed = (refl, refl, refl, refl, refl, refl, refl, refl)
 
@@ -115,7 +114,7 @@ found = (refl, λ h. true≢false h)
 
 room : (above_zero (pos 4 ∷ negsuc 2 ∷ pos 5 ∷ negsuc 0 ∷ []) ≡ 9)
     × (below_zero (pos 4 ∷ negsuc 2 ∷ pos 5 ∷ negsuc 0 ∷ []) ≡ 4)
-    × Gives (λ place. put_number place (sale 1 (pos 4))) ((0, pos 4) ∷ (1, pos 4) ∷ (2, pos 0) ∷ [])
+    × Gives (λ index. put_number index (sale 1 (pos 4))) ((0, pos 4) ∷ (1, pos 4) ∷ (2, pos 0) ∷ [])
     × (group_declared (record {
       shape = Cube;
       keys = declared.Number ∷ declared.Number ∷ [];
@@ -127,16 +126,16 @@ room = (refl, refl, refl, refl)
 module _ (d : Group) (us content : List Update) (zs : List ℤ) where
   contents : (AddUp zs ↔ ((above_zero zs < 2 ^ 127) × (below_zero zs ≤ 2 ^ 127)))
       × (HasRoom d us ↔ (((content : List Update) → IsContent d us content
-      → (place : ℕ) → place < length d.aggregates → aggregate_at d.aggregates place ≡ Sum
-      → AddUp (numbers_for place content))
-      × ((place : ℕ) → place < length d.aggregates → aggregate_at d.aggregates place ≡ Count
+      → (index : ℕ) → index < length d.aggregates → aggregate_at d.aggregates index ≡ Sum
+      → AddUp (numbers_for index content))
+      × ((index : ℕ) → index < length d.aggregates → aggregate_at d.aggregates index ≡ Count
       → length us < 2 ^ 63)))
       × (IsContent d us content ↔ (((keys : List KeyValue)
       → list_any (same_keys keys) (key_lists content) ≡ list_any (same_keys keys) (key_lists us))
       × IsDistinct same_keys (key_lists content)
-      × AllByRecursion (λ entry. (place : ℕ) → place < length d.aggregates
-      → aggregate (aggregate_at d.aggregates place) (numbers_for place (puts_of entry.keys us))
-      ≡ Some (put_number place entry)) content))
+      × AllByRecursion (λ entry. (index : ℕ) → index < length d.aggregates
+      → aggregate (aggregate_at d.aggregates index) (numbers_for index (puts_of entry.keys us))
+      ≡ Some (put_number index entry)) content))
   contents = (
     (λ a. (a.above, a.below), λ h. record { above = h.0; below = h.1 }),
     (λ r. (r.sums, r.counts), λ h. record { sums = h.0; counts = h.1 }),
@@ -148,18 +147,18 @@ module _ (d : Group) (us content : List Update) (zs : List ℤ) where
       ↔ (((keys : List KeyValue) → list_any (same_keys keys) (key_lists after)
       ≡ (same_keys keys put.keys || list_any (same_keys keys) (key_lists content)))
       × IsDistinct same_keys (key_lists after)
-      × ((place : ℕ) → place < length d.aggregates → group_aggregate put.keys place after
-      ≡ Some (step (aggregate_at d.aggregates place) (put_number place put)
-      (group_aggregate put.keys place content)))
+      × ((index : ℕ) → index < length d.aggregates → group_aggregate put.keys index after
+      ≡ Some (step (aggregate_at d.aggregates index) (put_number index put)
+      (group_aggregate put.keys index content)))
       × ((keys : List KeyValue) → same_keys keys put.keys ≡ false
-      → (place : ℕ) → place < length d.aggregates
-      → group_aggregate keys place after ≡ group_aggregate keys place content))
+      → (index : ℕ) → index < length d.aggregates
+      → group_aggregate keys index after ≡ group_aggregate keys index content))
   one_more put after = (
     λ w. (w.keys, w.once, w.own, w.others),
     λ h. record { keys = h.0; once = h.1; own = h.2; others = h.3 },
   )
 
-content_aggregates : Gives2 (λ ks place. group_aggregate ks place puts) (
+content_aggregates : Gives2 (λ ks index. group_aggregate ks index puts) (
     (Code 1 ∷ [], 0, Some (pos 4)) ∷ (Code 2 ∷ [], 1, Some (pos 5)) ∷ (Code 3 ∷ [], 0, None) ∷ [])
     × (cell_over sales 1 (sale 1 (pos 4) ∷ []) ≡ pos 4)
     × (cell_over sales 0 (sale 1 (pos 5) ∷ sale 2 (pos 5) ∷ []) ≡ pos 10)
@@ -167,7 +166,7 @@ content_aggregates : Gives2 (λ ks place. group_aggregate ks place puts) (
 unfolding group_aggregate held
 content_aggregates = (refl, refl, refl, refl)
 
--- ---- the places of keys that lie in ranges, the numbers from -1 to 2 and the codes 5 and 6; that of
+-- ---- the positions of keys that lie in ranges, the numbers from -1 to 2 and the codes 5 and 6; that of
 -- the first key counts by one
 
 abbrev numbers : Span
@@ -188,21 +187,20 @@ coded = record {
   codes = λ _. (omega arith, omega arith);
 }
 
-key_places : Gives2 offset_of (
-    (numbers, Number (negsuc 1), None) ∷ (numbers, Number (negsuc 0), Some 0)
-    ∷ (numbers, Number (pos 0), Some 1) ∷ (numbers, Number (pos 2), Some 3)
-    ∷ (numbers, Number (pos 3), None) ∷ (numbers, Code 0, None)
+key_ids : Gives2 offset_of ((numbers, Number (negsuc 1), None)
+    ∷ (numbers, Number (negsuc 0), Some 0) ∷ (numbers, Number (pos 0), Some 1)
+    ∷ (numbers, Number (pos 2), Some 3) ∷ (numbers, Number (pos 3), None) ∷ (numbers, Code 0, None)
     ∷ (coded, Code 4, None) ∷ (coded, Code 5, Some 0) ∷ (coded, Code 6, Some 1)
     ∷ (coded, Code 7, None) ∷ (coded, Number (pos 5), None) ∷ [])
-    × Gives places ((numbers ∷ coded ∷ [], 8) ∷ (coded ∷ [], 2) ∷ ([], 1) ∷ [])
-    × Gives (cell_place (numbers ∷ coded ∷ [])) (
-    (Number (negsuc 0) ∷ Code 5 ∷ [], Some 0) ∷ (Number (pos 2) ∷ Code 5 ∷ [], Some 3)
+    × Gives id_count ((numbers ∷ coded ∷ [], 8) ∷ (coded ∷ [], 2) ∷ ([], 1) ∷ [])
+    × Gives (group_id (numbers ∷ coded ∷ []))
+    ((Number (negsuc 0) ∷ Code 5 ∷ [], Some 0) ∷ (Number (pos 2) ∷ Code 5 ∷ [], Some 3)
     ∷ (Number (negsuc 0) ∷ Code 6 ∷ [], Some 4) ∷ (Number (pos 2) ∷ Code 6 ∷ [], Some 7)
     ∷ (Number (pos 3) ∷ Code 5 ∷ [], None) ∷ (Number (pos 2) ∷ Code 7 ∷ [], None)
     ∷ (Number (pos 0) ∷ [], None) ∷ [])
-    × Gives (cell_place []) (([], Some 0) ∷ (Code 5 ∷ [], None) ∷ [])
-    × IsOf numbers declared.Number × IsOf coded (declared.Text PBrand1)
-key_places = (refl, refl, refl, refl, refl, refl)
+    × Gives (group_id []) (([], Some 0) ∷ (Code 5 ∷ [], None) ∷ []) × IsOf numbers declared.Number
+    × IsOf coded (declared.Text PBrand1)
+key_ids = (refl, refl, refl, refl, refl, refl)
 
 -- ---- batches: the word of a register is in its vector of 1,024; a COUNT is 1, and the others take the
 -- registers in turn; puts come newest first

@@ -1,13 +1,10 @@
 -- The content of a deferred store: only the rows of all keys, and the total.
-use Rattle.std.specs.Prelude.{◌≡◌, ℕ, ◌<◌, Bool, true, false, List, Option, Some, None, filter, length, map, slice_index_or}
-use Rattle.std.specs.{List.AllByRecursion, Map.lookup}
+use Rattle.std.specs.{Prelude.{◌≡◌, ℕ, ◌<◌, Bool, true, false, List, Option, Some, None, filter, length, map, slice_index_or}, List.AllByRecursion, Map.lookup}
 use Rattle.star_schema.specs.{declared.group.Aggregate.Aggregate, declared.group.Shape.Shape, Groups.numbers_for}
 use Rattle.star_program.specs.{declared.key.KeyValue.KeyValue, declared.key.KeyValue.TheVariants.Number as NumberKey, declared.key.KeyValue.TheVariants.Code as CodeKey, Puts.Update, Puts.aggregate_at, Puts.leaves}
-use Rattle.star_group.specs.{declared.keyed.key.KeyPart.KeyPart, declared.keyed.key.KeyPart.TheVariants.All, declared.keyed.key.KeyPart.TheVariants.Number, declared.keyed.key.KeyPart.TheVariants.Code, Cells.held, BaseKeys.is_of_put, BaseKeys.key_eq, BaseKeys.padded, Stores.Group}
-use Rattle.star_group.specs.{Held.has_puts}
-use Rattle.star_group.specs.{BaseKeys.RowKey, Keyed.Entry, Keyed.Row}
+use Rattle.star_group.specs.{declared.keyed.key.KeyPart.KeyPart, declared.keyed.key.KeyPart.TheVariants.{All, Number, Code}, Cells.held, BaseKeys.{is_of_put, key_eq, padded, RowKey}, Stores.Group, Held.has_puts, Keyed.{Entry, Row}}
 
--- the value at a place of a key, None for ALL
+-- the value at a position of a key, None for ALL
 abbrev pub key_value_view : KeyPart → Option KeyValue
 key_value_view All = None
 key_value_view (Number x) = Some (NumberKey x)
@@ -22,8 +19,8 @@ row_found entries q = lookup (λ parts. key_eq q (key_view parts)) entries
 
 -- the row has each aggregate over these puts
 abbrev pub HasAggregates : Group → List Update → Row → Type 0
-HasAggregates d puts row = (place : ℕ) → place < length d.aggregates
-    → slice_index_or row place None ≡ held (aggregate_at d.aggregates place) (numbers_for place puts)
+HasAggregates d puts row = (index : ℕ) → index < length d.aggregates
+    → slice_index_or row index None ≡ held (aggregate_at d.aggregates index) (numbers_for index puts)
 
 -- a row is there exactly if it has a put, and has the aggregates over its puts
 abbrev pub IsRowOver : Group → List Update → Option Row → Type 0
@@ -54,9 +51,9 @@ group_with s n gs = record { shape = s; count = n; aggregates = gs }
 
 -- whichever key lists pass a test, no SUM over their puts leaves 128 bits, and no COUNT 64
 abbrev pub AreInBits : Group → List Update → Type 0
-AreInBits d puts = (passes : List KeyValue → Bool) (place : ℕ) → place < length d.aggregates
-    → leaves (aggregate_at d.aggregates place)
-    (held (aggregate_at d.aggregates place) (numbers_for place (filter (λ put. passes put.keys) puts))) ≡ false
+AreInBits d puts = (passes : List KeyValue → Bool) (index : ℕ) → index < length d.aggregates
+    → leaves (aggregate_at d.aggregates index)
+    (held (aggregate_at d.aggregates index) (numbers_for index (filter (λ put. passes put.keys) puts))) ≡ false
 
 -- they are those of some puts that stay in their bits
 abbrev pub HasBaseWithRoom : Group → List Entry → Row → Type 0

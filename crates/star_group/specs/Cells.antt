@@ -1,6 +1,5 @@
 -- What a row holds of an aggregate, and how one more number changes it.
-use Rattle.std.specs.Prelude.{ℤ, pos, ◌+ℤ◌, List, [], ◌∷◌, Option, Some, None}
-use Rattle.std.specs.{Int.int_min, Int.int_max}
+use Rattle.std.specs.{Prelude.{ℤ, pos, ◌+ℤ◌, List, [], ◌∷◌, Option, Some, None}, Int.{int_min, int_max}}
 use Rattle.star_schema.specs.{declared.group.Aggregate.Aggregate, declared.group.Aggregate.TheVariants.Sum, declared.group.Aggregate.TheVariants.Count, declared.group.Aggregate.TheVariants.Min, declared.group.Aggregate.TheVariants.Max}
 
 -- an aggregate with one more number

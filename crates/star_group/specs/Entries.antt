@@ -1,8 +1,7 @@
 -- What a contract sees of rows by their keys.
 use Rattle.std.specs.Prelude.{List}
-use Rattle.star_group.specs.{declared.keyed.KeyedRows.KeyedRows, declared.keyed.ListedRows.ListedRows, Keyed.keyed}
+use Rattle.star_group.specs.{declared.keyed.KeyedRows.KeyedRows, declared.keyed.ListedRows.ListedRows, Keyed.{keyed, Entry}}
 use Rattle.star_program.specs.Rows.{cut}
-use Rattle.star_group.specs.{Keyed.Entry}
 
 -- the rows with their keys
 abbrev pub listed_entries : ListedRows → List Entry

@@ -12,11 +12,11 @@ Entry = List KeyPart × Row
 abbrev pub all_rolled_up : List KeyPart
 all_rolled_up = All ∷ All ∷ All ∷ All ∷ All ∷ All ∷ []
 
--- a key in six places, past its own with ALL
+-- a key in six positions, past its own with ALL
 abbrev pub filled : List KeyPart → List KeyPart
 filled parts = parts ++ drop (length parts) all_rolled_up
 
--- each key in six places, and the aggregates of its row
+-- each key in six positions, and the aggregates of its row
 unfoldable pub keyed : List (List KeyPart) → List Row → List Entry
 keyed [] rows = []
 keyed (key ∷ keys) [] = []

@@ -10,8 +10,8 @@ pub mod Base
 pub mod Keyed
 pub mod Entries
 pub mod Deferred
-pub mod Places
-pub mod ByPlace
+pub mod Ids
+pub mod ById
 pub mod ArrayStores
 pub mod StoreRows
 pub mod Private

@@ -1,13 +1,13 @@
 // Array aggregation: groups whose keys lie in known ranges have dense group ids.
 
 ghost use Rattle.std.specs.Prelude.{◌≡◌, ◌≤◌, ◌*◌, ◌^◌, length};
-ghost use Rattle.star_group.specs.{ByPlace.IsArrayContentWithRoom, Entries.entries_of, Places.places};
+ghost use Rattle.star_group.specs.{ById.IsArrayContentWithRoom, Entries.entries_of, Ids.id_count};
 
 mod cells;
 mod filling;
+mod ids;
 mod listing;
 mod making;
-mod places;
 mod span;
 mod store;
 
@@ -25,8 +25,8 @@ pub struct ArrayStore {
     seen: Vec<bool>,
     cells: Vec<i128>,
     ghost keys: { length spans.items ≡ rest.key_count },
-    ghost few: { places spans.items ≤ 2 ^ 28 },
-    ghost marks: { length seen.items ≡ places spans.items },
+    ghost few: { id_count spans.items ≤ 2 ^ 28 },
+    ghost marks: { length seen.items ≡ id_count spans.items },
     ghost long: { length cells.items ≡ length rest.aggregates.items * length seen.items },
     ghost room: { IsArrayContentWithRoom
         (record { shape = rest.shape; count = rest.key_count; aggregates = rest.aggregates.items })

@@ -1,7 +1,6 @@
 // What rows of a group have of its aggregates, and the row of all puts.
 
-ghost use Rattle.std.specs.Prelude.{◌≡◌, ◌≤◌, [], Some, None, length, slice_index_or, MatchBool, MatchOption};
-ghost use Rattle.std.specs.Option.{option_copied, unwrap_or};
+ghost use Rattle.std.specs.{Prelude.{◌≡◌, ◌≤◌, [], Some, None, length, slice_index_or, MatchBool, MatchOption}, Option.{option_copied, unwrap_or}};
 ghost use Rattle.star_group.specs.Private.Given as spec;
 ghost use Rattle.star_group.specs.Private.Merged.{IsMerged, MergeLeaves, MergeStays};
 
@@ -87,11 +86,11 @@ impl Total {
         if self.begun { Some(&self.row) } else { None }
     }
 
-    // An aggregate, by its place.
-    pub(crate) fn get(&self, place: usize) -> Option<i128>
-        ensures { result ≡ slice_index_or self.now place None }
+    // An aggregate, by its position.
+    pub(crate) fn get(&self, index: usize) -> Option<i128>
+        ensures { result ≡ slice_index_or self.now index None }
     {
-        match self.as_row()?.get(place) {
+        match self.as_row()?.get(index) {
             Some(held) => Some(held.number()),
             None => None,
         }

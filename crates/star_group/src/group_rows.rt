@@ -25,12 +25,10 @@ pub struct GroupRows {
 }
 
 impl Model for GroupRows {
-    ghost use Rattle.std.specs.Prelude.{◌≤◌, List, map, take};
-    ghost use Rattle.std.specs.Option.{option_map};
+    ghost use Rattle.std.specs.{Prelude.{◌≤◌, List, map, take}, Option.option_map};
     ghost use Rattle.star_schema.specs.Groups.{GroupRow};
     ghost use Rattle.star_program.specs.declared.key.KeyValue.{KeyValue};
-    ghost use Rattle.star_group.specs.Private.Given.{row_shown};
-    ghost use Rattle.star_group.specs.Entries.{listed_entries};
+    ghost use Rattle.star_group.specs.{Private.Given.row_shown, Entries.listed_entries};
 
     ghost Value = { List (GroupRow KeyValue) };
 
@@ -42,11 +40,11 @@ impl Model for GroupRows {
     ghost invariant = { λ rows. (rows.key_count ≤ 6) × (rows.rows.aggregate_count ≤ 8) };
 }
 
-// The aggregate at a place, if there is one.
-fn aggregate_at(aggregates: &[Option<i128>], place: usize) -> Option<i128>
-    ensures { result ≡ slice_index_or aggregates.now place None }
+// The aggregate at a position, if there is one.
+fn aggregate_at(aggregates: &[Option<i128>], index: usize) -> Option<i128>
+    ensures { result ≡ slice_index_or aggregates.now index None }
 {
-    match aggregates.get(place) {
+    match aggregates.get(index) {
         Some(aggregate) => *aggregate,
         None => None,
     }
@@ -60,28 +58,28 @@ impl GroupRows {
         self.rows.len()
     }
 
-    /// The key at a place of the row of a number from 0, in which `None` is ALL; `None` if there
-    /// is no such place or row.
-    pub fn key(&self, number: usize, place: usize) -> Option<KeyValue>
-        ensures { result ≡ slice_index_or (row_at self.now number).keys place None }
+    /// The key at a position of the row of a number from 0, in which `None` is ALL; `None` if there
+    /// is no such position or row.
+    pub fn key(&self, number: usize, index: usize) -> Option<KeyValue>
+        ensures { result ≡ slice_index_or (row_at self.now number).keys index None }
     {
-        if place < self.key_count {
-            self.rows.part(number, place)
+        if index < self.key_count {
+            self.rows.part(number, index)
         } else {
             None
         }
     }
 
-    /// The aggregate at a place of the row of a number from 0, in which `None` is NULL; `None` if
-    /// there is no such place or row.
-    pub fn aggregate(&self, number: usize, place: usize) -> Option<i128>
-        ensures { result ≡ slice_index_or (row_at self.now number).totals place None }
+    /// The aggregate at a position of the row of a number from 0, in which `None` is NULL; `None` if
+    /// there is no such position or row.
+    pub fn aggregate(&self, number: usize, index: usize) -> Option<i128>
+        ensures { result ≡ slice_index_or (row_at self.now number).totals index None }
     {
         match &self.nothing {
-            None => self.rows.cell(number, place),
+            None => self.rows.cell(number, index),
             Some(row) => {
                 if number < self.rows.len() {
-                    aggregate_at(&row[..self.rows.aggregate_count], place)
+                    aggregate_at(&row[..self.rows.aggregate_count], index)
                 } else {
                     None
                 }
@@ -96,8 +94,8 @@ fn over_nothing(aggregates: &[Aggregate]) -> [Option<i128>; 8]
     ensures { take (length aggregates.now) result ≡ map (λ g. spec.shown g None) aggregates.now }
 {
     let mut row = [None; 8];
-    for place in 0..aggregates.len() {
-        row[place] = shown(aggregates[place], None);
+    for index in 0..aggregates.len() {
+        row[index] = shown(aggregates[index], None);
     }
     row
 }

@@ -4,8 +4,7 @@
 ghost use Rattle.std.specs.Prelude.{◌≡◌, ◌<◌, ◌^◌, ℕ, All, List, ◌∷◌, false, true, length};
 ghost use Rattle.star_schema.specs.{Groups.numbers_for, declared.group.Aggregate.TheVariants.Sum};
 ghost use Rattle.star_interval.specs.Range.{is_i64};
-ghost use Rattle.star_group.specs.Stores.{AddUp, AreOfContent, Group, HasRoom, IsContent};
-ghost use Rattle.star_group.specs.{OneMore.IsWithPut};
+ghost use Rattle.star_group.specs.{Stores.{AddUp, AreOfContent, Group, HasRoom, IsContent}, OneMore.IsWithPut};
 ghost use Rattle.star_program.specs.Puts.{Update, aggregate_at, overflows};
 
 /// Every list of puts has a content.
@@ -38,9 +37,8 @@ pub fn room_is_enough()
 /// If the numbers themselves add up within 128 bits, the sums by key list do too.
 pub fn small_numbers_have_room()
     ensures { (d : Group) (puts : List Update)
-        → ((place : ℕ) → place < length d.aggregates → aggregate_at d.aggregates place ≡ Sum
-        → AddUp (numbers_for place puts))
-        → length puts < 2 ^ 63 → HasRoom d puts }
+        → ((index : ℕ) → index < length d.aggregates → aggregate_at d.aggregates index ≡ Sum
+        → AddUp (numbers_for index puts)) → length puts < 2 ^ 63 → HasRoom d puts }
 {}
 
 /// Fewer than 2^63 puts of numbers of 64 bits have room: how many puts there can be is enough.

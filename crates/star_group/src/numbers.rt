@@ -45,9 +45,9 @@ pub fn numbers_put<F: Fn(u16) -> i64>(
 {
     let mut put = [1; 8];
     let mut left = values;
-    for place in 0..aggregates.len() {
-        let (number, rest) = next_number(aggregates[place], left, &number_in);
-        put[place] = number;
+    for index in 0..aggregates.len() {
+        let (number, rest) = next_number(aggregates[index], left, &number_in);
+        put[index] = number;
         left = rest;
     }
     put

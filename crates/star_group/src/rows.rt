@@ -1,11 +1,8 @@
 // One more put of the rows of its keys.
 
-ghost use Rattle.std.specs.Prelude.{◌≡◌, ◌+◌, ℕ, length, map, IfErr, MatchBool, OnErr, OnOk};
-ghost use Rattle.std.specs.{List.IsDistinct};
+ghost use Rattle.std.specs.{Prelude.{◌≡◌, ◌+◌, ℕ, length, map, IfErr, MatchBool, OnErr, OnOk}, List.IsDistinct};
 ghost use Rattle.star_common.specs.Memory.{TellsMemory, UnlessMemory};
-ghost use Rattle.star_group.specs.Private.Numbers.{AreAsWide, AreNarrow, FitsIn, HasSpace, IsNarrow};
-ghost use Rattle.star_group.specs.Private.Rows.{AllStay, MergesAll, PutsRows, SomeLeaves, is_one_of};
-ghost use Rattle.star_group.specs.{Base.key_view, Base.row_found, BaseKeys.key_eq, Entries.entries_of, Private.Merged.IsMergedAt, Private.Merged.RowsStay, declared.rows.PutFault.TheVariants.OutOfMemory};
+ghost use Rattle.star_group.specs.{Private.Numbers.{AreAsWide, AreNarrow, FitsIn, HasSpace, IsNarrow}, Private.Rows.{AllStay, MergesAll, PutsRows, SomeLeaves, is_one_of}, Base.{key_view, row_found}, BaseKeys.key_eq, Entries.entries_of, Private.Merged.{IsMergedAt, RowsStay}, declared.rows.PutFault.TheVariants.OutOfMemory};
 
 use crate::cell::Held;
 use crate::keyed::KeyedRows;

@@ -1,8 +1,7 @@
 -- Products of held numbers, and held numbers taken n times.
 use Rattle.std.proofs.{Common.ℕ, Common.◌+◌, Common.◌*◌, Common.◌≤◌, Common.arith, Common.ℤ, Common.pos, Common.negsuc, Common.◌*ℤ◌, Common.◌≤ℤ◌, Common.rules, lemmas.Int.ints, lemmas.Int.clamps, Math.Nat.mul-le-mul_left, Math.IntN.*ℤ_comm, lemmas.Grind.common_steps}
 use borrow.Author.Differences.{up, down, le_out}
-use Rattle.star_interval.specs.{Range.Range, Range.Holds, Range.IsOrdered, Range.IsWithin, Range.IsLeast, Range.IsResult, Range.IsMultiple, Range.only, Range.hull, Range.corner_range, Range.multiple_range, Laws.KeepsValues, Laws.KeepsOrder}
-use Rattle.star_interval.proofs.Ranges.{holds_within, hulls_within, within_only, least_corners, corners_within}
+use Rattle.star_interval.{specs.Range.{Range, Holds, IsOrdered, IsWithin, IsLeast, IsResult, IsMultiple, only, hull, corner_range, multiple_range}, specs.Laws.{KeepsValues, KeepsOrder}, proofs.Ranges.{holds_within, hulls_within, within_only, least_corners, corners_within}}
 
 -- a product grows with a factor where the other one is not negative
 pub mul_grows : (n : ℕ) (a b : ℤ) → a ≤ℤ b → (a *ℤ pos n) ≤ℤ (b *ℤ pos n)

@@ -1,10 +1,7 @@
 -- Ranges that hold a number or lie in one another, least ranges, and what is so of any operation's
 -- corners.
-use Rattle.std.proofs.Common.{◌≡◌, ◌⊎◌, true, false, cond, refl, sym, subst, arith, ℤ, pos, negsuc, ◌≤ℤ◌, int_lt, FitsSigned, w64, IsTrue, ◌↔◌, ◌^◌, rules}
-use Rattle.std.proofs.{lemmas.Bool.ltb-true, lemmas.Bool.lt-ltb, lemmas.Bool.and_parts, lemmas.Bool.and_from, lemmas.Int.ints, lemmas.Int.clamps, lemmas.Grind.common_steps}
-use Rattle.std.specs.Int.{Width, w128, int_min, int_max}
-use Rattle.star_interval.specs.Range.{Range, Holds, IsOrdered, IsWithin, FitsI64, is_i64, fits_i64, FitsI128, is_i128, IsLeast, IsResult, only, hull, corner_range}
-use Rattle.star_interval.specs.{Laws.KeepsValues, Laws.KeepsOrder}
+use Rattle.std.{proofs.Common.{◌≡◌, ◌⊎◌, true, false, cond, refl, sym, subst, arith, ℤ, pos, negsuc, ◌≤ℤ◌, int_lt, FitsSigned, w64, IsTrue, ◌↔◌, ◌^◌, rules}, proofs.lemmas.Bool.{ltb-true, lt-ltb, and_parts, and_from}, proofs.lemmas.Int.{ints, clamps}, proofs.lemmas.Grind.common_steps, specs.Int.{Width, w128, int_min, int_max}}
+use Rattle.star_interval.specs.{Range.{Range, Holds, IsOrdered, IsWithin, FitsI64, is_i64, fits_i64, FitsI128, is_i128, IsLeast, IsResult, only, hull, corner_range}, Laws.{KeepsValues, KeepsOrder}}
 
 -- ranges with the same ends are equal
 pub range_same : (a b : Range) → a.low ≡ b.low → a.high ≡ b.high → a ≡ b

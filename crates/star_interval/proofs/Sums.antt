@@ -1,7 +1,6 @@
 -- Sums and differences of held numbers.
 use Rattle.std.proofs.{Common.◌≡◌, Common.arith, Common.◌+ℤ◌, Common.◌-ℤ◌, lemmas.Int.ints, lemmas.Int.clamps}
-use Rattle.star_interval.specs.{Range.Range, Range.IsOrdered, Range.IsLeast, Range.IsResult, Range.corner_range, Laws.KeepsValues, Laws.KeepsOrder}
-use Rattle.star_interval.proofs.Ranges.{least_corners, corners_within}
+use Rattle.star_interval.{specs.Range.{Range, IsOrdered, IsLeast, IsResult, corner_range}, specs.Laws.{KeepsValues, KeepsOrder}, proofs.Ranges.{least_corners, corners_within}}
 
 pub sums_held : KeepsValues ◌+ℤ◌ (corner_range ◌+ℤ◌)
 sums_held a b x y p q = grind (arith, ints, clamps)

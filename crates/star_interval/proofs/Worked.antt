@@ -1,8 +1,6 @@
 -- Ranges of a few numbers, by computation: which ranges are made of them, and what each word says.
-use Rattle.std.proofs.Common.{◌≡◌, ◌↔◌, ℕ, ℤ, List, [], ◌∷◌, true, false, map, pos, negsuc, refl, Ok, Err, w64}
-use Rattle.std.specs.{Prelude.◌≤ℤ◌, Prelude.◌-ℤ◌, Prelude.◌*ℤ◌, Prelude.FitsSigned, Prelude.codes, Fmt.digits}
-use Rattle.star_interval.specs.Range.{FitsI64, Holds, IsLeast, IsMultiple, IsOrdered, IsResult, IsWithin, Range, corner_range, fits_i64, hull, is_i128, is_i64, multiple_range, only, text_of}
-use Rattle.star_interval.specs.{declared.Interval.Interval, declared.Wide.Wide, Interval.bounds_of, Interval.range_of, Interval.wide_range_of, Laws.KeepsOrder, Laws.KeepsValues}
+use Rattle.std.{proofs.Common.{◌≡◌, ◌↔◌, ℕ, ℤ, List, [], ◌∷◌, true, false, map, pos, negsuc, refl, Ok, Err, w64}, specs.Prelude.{◌≤ℤ◌, ◌-ℤ◌, ◌*ℤ◌, FitsSigned, codes}, specs.Fmt.digits}
+use Rattle.star_interval.specs.{Range.{FitsI64, Holds, IsLeast, IsMultiple, IsOrdered, IsResult, IsWithin, Range, corner_range, fits_i64, hull, is_i128, is_i64, multiple_range, only, text_of}, declared.Interval.Interval, declared.Wide.Wide, Interval.{bounds_of, range_of, wide_range_of}, Laws.{KeepsOrder, KeepsValues}}
 
 abbrev from_to : ℤ → ℤ → Range
 from_to l h = record { low = l; high = h }
@@ -13,19 +11,16 @@ Gives f rows = map (λ row. f row.0) rows ≡ map (λ row. row.1) rows
 
 -- ---- 64 bits and 128, at the ends and past them
 
-bits : Gives is_i64 (
-    (pos 9223372036854775807, true) ∷ (negsuc 9223372036854775807, true)
+bits : Gives is_i64 ((pos 9223372036854775807, true) ∷ (negsuc 9223372036854775807, true)
     ∷ (pos 9223372036854775808, false) ∷ (negsuc 9223372036854775808, false) ∷ [])
-    × Gives fits_i64 (
-    (from_to (pos 0) (pos 9223372036854775808), false)
+    × Gives fits_i64 ((from_to (pos 0) (pos 9223372036854775808), false)
     ∷ (from_to (negsuc 9223372036854775808) (pos 0), false)
     ∷ (from_to (negsuc 9223372036854775807) (pos 9223372036854775807), true) ∷ [])
-    × Gives is_i128 (
-    (pos 170141183460469231731687303715884105727, true)
+    × Gives is_i128 ((pos 170141183460469231731687303715884105727, true)
     ∷ (negsuc 170141183460469231731687303715884105727, true)
     ∷ (pos 170141183460469231731687303715884105728, false)
-    ∷ (negsuc 170141183460469231731687303715884105728, false)
-    ∷ (pos 9223372036854775808, true) ∷ (negsuc 9223372036854775808, true) ∷ [])
+    ∷ (negsuc 170141183460469231731687303715884105728, false) ∷ (pos 9223372036854775808, true)
+    ∷ (negsuc 9223372036854775808, true) ∷ [])
 unfolding is_i64 is_i128
 bits = (refl, refl, refl)
 
@@ -54,16 +49,14 @@ of_intervals i w = (refl, refl, refl, refl)
 -- ---- what the words say
 
 module _ (a b c d l h x y z : ℤ) (n : ℕ) (Kind : ℤ → Type 0) where
-  words : (Holds (from_to l h) z ↔ ((l ≤ℤ z) × (z ≤ℤ h)))
-      × (IsOrdered (from_to l h) ≡ (l ≤ℤ h))
+  words : (Holds (from_to l h) z ↔ ((l ≤ℤ z) × (z ≤ℤ h))) × (IsOrdered (from_to l h) ≡ (l ≤ℤ h))
       × (IsWithin (from_to a b) (from_to l h) ↔ ((l ≤ℤ a) × (b ≤ℤ h)))
       × (FitsI64 (from_to l h) ≡ (FitsSigned w64 l × FitsSigned w64 h))
       × (IsLeast Kind (from_to l h)
       ↔ (((z : ℤ) → Kind z → Holds (from_to l h) z) × Kind l × Kind h))
-      × (IsResult (λ x y. x -ℤ y) (from_to a b) (from_to l h) z ↔ ((x : ℤ) × (y : ℤ)
-      × Holds (from_to a b) x × Holds (from_to l h) y × (x -ℤ y ≡ z)))
-      × (IsMultiple n (from_to l h) z
-      ↔ ((x : ℤ) × Holds (from_to l h) x × (pos n *ℤ x ≡ z)))
+      × (IsResult (λ x y. x -ℤ y) (from_to a b) (from_to l h) z
+      ↔ ((x : ℤ) × (y : ℤ) × Holds (from_to a b) x × Holds (from_to l h) y × (x -ℤ y ≡ z)))
+      × (IsMultiple n (from_to l h) z ↔ ((x : ℤ) × Holds (from_to l h) x × (pos n *ℤ x ≡ z)))
   words = (
     (λ r. (r.from, r.to), λ r. record { from = r.0; to = r.1 }),
     refl,
@@ -78,7 +71,8 @@ module _ (a b c d l h x y z : ℤ) (n : ℕ) (Kind : ℤ → Type 0) where
   )
 
 laws : (op : ℤ → ℤ → ℤ) (f : Range → Range → Range)
-    → (KeepsValues op f ≡ ((a b : Range) (x y : ℤ) → Holds a x → Holds b y → Holds (f a b) (op x y)))
+    → (KeepsValues op f ≡ ((a b : Range) (x y : ℤ) → Holds a x → Holds b y
+    → Holds (f a b) (op x y)))
     × (KeepsOrder f ≡ ((a b c d : Range) → IsOrdered a → IsOrdered b → IsWithin a c → IsWithin b d
     → IsWithin (f a b) (f c d)))
 laws op f = (refl, refl)

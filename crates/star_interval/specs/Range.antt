@@ -1,7 +1,6 @@
 -- Ranges of whole numbers of any size: which numbers they hold, and the results of operations on
 -- them.
-use Rattle.std.specs.Prelude.{◌≡◌, ℕ, ℤ, pos, ◌*ℤ◌, negsuc, ◌≤ℤ◌, FitsSigned, Bool, ◌&&◌, nat_lt, ◌^◌, List, ◌++◌, codes}
-use Rattle.std.specs.{Fmt.signed_decimal, Int.w64, Int.w128, Int.int_min, Int.int_max}
+use Rattle.std.specs.{Prelude.{◌≡◌, ℕ, ℤ, pos, ◌*ℤ◌, negsuc, ◌≤ℤ◌, FitsSigned, Bool, ◌&&◌, nat_lt, ◌^◌, List, ◌++◌, codes}, Fmt.signed_decimal, Int.{w64, w128, int_min, int_max}}
 
 -- the whole numbers from low to high
 pub record Range : Type 0 where

@@ -1,9 +1,7 @@
 //! Laws of ranges: functions with empty bodies, whose clauses are the laws.
 
-ghost use Rattle.std.specs.Prelude.{◌≡◌, ℕ, ◌⊎◌, ◌↔◌, IsTrue, ℤ, pos, ◌+ℤ◌, ◌-ℤ◌, ◌*ℤ◌, FitsSigned};
-ghost use Rattle.std.specs.Int.{w64, w128};
-ghost use Rattle.star_interval.specs.Range.{Range, Holds, IsWithin, FitsI64, fits_i64, FitsI128, is_i128, IsLeast, IsResult, IsMultiple, only, hull, corner_range, multiple_range};
-ghost use Rattle.star_interval.specs.Laws.{KeepsValues, KeepsOrder};
+ghost use Rattle.std.specs.{Prelude.{◌≡◌, ℕ, ◌⊎◌, ◌↔◌, IsTrue, ℤ, pos, ◌+ℤ◌, ◌-ℤ◌, ◌*ℤ◌, FitsSigned}, Int.{w64, w128}};
+ghost use Rattle.star_interval.specs.{Range.{Range, Holds, IsWithin, FitsI64, fits_i64, FitsI128, is_i128, IsLeast, IsResult, IsMultiple, only, hull, corner_range, multiple_range}, Laws.{KeepsValues, KeepsOrder}};
 
 /// States that the range of an operation holds the result for each pair of numbers that its
 /// operands hold.
@@ -42,15 +40,12 @@ pub fn numbers_of_fitting_ranges_fit()
 
 /// States that a least range lies within each range that holds the same numbers.
 pub fn least_ranges_are_least()
-    ensures results { (operation : ℤ → ℤ → ℤ) (a b r s : Range)
-        → IsLeast (IsResult operation a b) r
+    ensures results { (operation : ℤ → ℤ → ℤ) (a b r s : Range) → IsLeast (IsResult operation a b) r
         → ((z : ℤ) → IsResult operation a b z → Holds s z) → IsWithin r s }
     ensures multiples { (n : ℕ) (a r s : Range)
         → IsLeast (IsMultiple n a) r → ((z : ℤ) → IsMultiple n a z → Holds s z) → IsWithin r s }
-    ensures hulls { (a b r s : Range)
-        → IsLeast (λ z. Holds a z ⊎ Holds b z) r
+    ensures hulls { (a b r s : Range) → IsLeast (λ z. Holds a z ⊎ Holds b z) r
         → ((z : ℤ) → Holds a z ⊎ Holds b z → Holds s z) → IsWithin r s }
-    ensures with_zero { (a r s : Range)
-        → IsLeast (λ z. Holds a z ⊎ (z ≡ pos 0)) r
+    ensures with_zero { (a r s : Range) → IsLeast (λ z. Holds a z ⊎ (z ≡ pos 0)) r
         → ((z : ℤ) → Holds a z ⊎ (z ≡ pos 0) → Holds s z) → IsWithin r s }
 {}

@@ -24,8 +24,7 @@ pub struct Wide {
 }
 
 impl Interval {
-    ghost use Rattle.star_interval.specs.Range.{Holds, FitsI64, IsLeast, IsResult, IsMultiple, only, hull, corner_range, multiple_range};
-    ghost use Rattle.star_interval.specs.Interval.{range_of, wide_range_of, bounds_of};
+    ghost use Rattle.star_interval.specs.{Range.{Holds, FitsI64, IsLeast, IsResult, IsMultiple, only, hull, corner_range, multiple_range}, Interval.{range_of, wide_range_of, bounds_of}};
 
     /// Returns the interval that holds one number.
     pub fn point(value: i64) -> Interval
@@ -46,8 +45,7 @@ impl Interval {
 
     /// Returns the least interval that holds both intervals.
     pub fn hull(&self, other: &Interval) -> Interval
-        ensures least { IsLeast
-            (λ z. Holds (range_of self.now) z ⊎ Holds (range_of other.now) z)
+        ensures least { IsLeast (λ z. Holds (range_of self.now) z ⊎ Holds (range_of other.now) z)
             (range_of result) }
         ensures ends { range_of result ≡ hull (range_of self.now) (range_of other.now) }
     {
@@ -59,9 +57,7 @@ impl Interval {
 
     /// Returns the least interval that holds this one and 0.
     pub fn with_zero(&self) -> Interval
-        ensures least { IsLeast
-            (λ z. Holds (range_of self.now) z ⊎ (z ≡ pos 0))
-            (range_of result) }
+        ensures least { IsLeast (λ z. Holds (range_of self.now) z ⊎ (z ≡ pos 0)) (range_of result) }
         ensures ends { range_of result ≡ hull (range_of self.now) (only (pos 0)) }
     {
         self.hull(&Interval::point(0))
@@ -72,8 +68,7 @@ impl Interval {
     ///
     /// If its bounds leave 64 bits, they are returned as the error.
     pub fn add(&self, other: &Interval) -> Result<Interval, Wide>
-        ensures least { IsLeast
-            (IsResult ◌+ℤ◌ (range_of self.now) (range_of other.now))
+        ensures least { IsLeast (IsResult ◌+ℤ◌ (range_of self.now) (range_of other.now))
             (bounds_of result) }
         ensures fits { IsOk result ↔ FitsI64 (bounds_of result) }
 
@@ -89,8 +84,7 @@ impl Interval {
     ///
     /// If its bounds leave 64 bits, they are returned as the error.
     pub fn sub(&self, other: &Interval) -> Result<Interval, Wide>
-        ensures least { IsLeast
-            (IsResult ◌-ℤ◌ (range_of self.now) (range_of other.now))
+        ensures least { IsLeast (IsResult ◌-ℤ◌ (range_of self.now) (range_of other.now))
             (bounds_of result) }
         ensures fits { IsOk result ↔ FitsI64 (bounds_of result) }
 
@@ -106,8 +100,7 @@ impl Interval {
     ///
     /// If its bounds leave 64 bits, they are returned as the error.
     pub fn mul(&self, other: &Interval) -> Result<Interval, Wide>
-        ensures least { IsLeast
-            (IsResult ◌*ℤ◌ (range_of self.now) (range_of other.now))
+        ensures least { IsLeast (IsResult ◌*ℤ◌ (range_of self.now) (range_of other.now))
             (bounds_of result) }
         ensures fits { IsOk result ↔ FitsI64 (bounds_of result) }
 
@@ -190,22 +183,19 @@ impl Interval {
 }
 
 impl Wide {
-    ghost use Rattle.star_interval.specs.Range.{FitsI64, FitsI128, IsLeast, IsResult, only, hull, corner_range};
-    ghost use Rattle.star_interval.specs.Interval.{wide_range_of, bounds_of};
+    ghost use Rattle.star_interval.specs.{Range.{FitsI64, FitsI128, IsLeast, IsResult, only, hull, corner_range}, Interval.{wide_range_of, bounds_of}};
 
     /// Returns the least bounds of the sums of a number within these bounds and a number within the
     /// others, or None if they leave 128 bits.
     pub fn add(&self, others: &Wide) -> Option<Wide>
-        ensures least { IfSome result
-            (λ sums. IsLeast
-            (IsResult ◌+ℤ◌ (wide_range_of self.now) (wide_range_of others.now))
+        ensures least { IfSome result (λ sums.
+            IsLeast (IsResult ◌+ℤ◌ (wide_range_of self.now) (wide_range_of others.now))
             (wide_range_of sums)) }
         ensures fits { IsSome result
             ↔ FitsI128 (corner_range ◌+ℤ◌ (wide_range_of self.now) (wide_range_of others.now)) }
 
         // For callers that compute with ends.
-        ensures corners { IfSome result
-            (λ sums. wide_range_of sums
+        ensures corners { IfSome result (λ sums. wide_range_of sums
             ≡ corner_range ◌+ℤ◌ (wide_range_of self.now) (wide_range_of others.now)) }
     {
         let low = self.low.checked_add(others.low)?;
@@ -277,8 +267,7 @@ impl From<Interval> for Wide {
 /// Prints as `low..high`.
 impl fmt::Display for Wide {
     ghost use Rattle.std.specs.Prelude.{Some};
-    ghost use Rattle.star_interval.specs.Range.{text_of};
-    ghost use Rattle.star_interval.specs.Interval.{wide_range_of};
+    ghost use Rattle.star_interval.specs.{Range.text_of, Interval.wide_range_of};
 
     ghost output = { λ w. Some (text_of (wide_range_of w)) };
 
@@ -292,8 +281,7 @@ impl fmt::Display for Wide {
 /// Prints as `low..high`.
 impl fmt::Display for Interval {
     ghost use Rattle.std.specs.Prelude.{Some};
-    ghost use Rattle.star_interval.specs.Range.{text_of};
-    ghost use Rattle.star_interval.specs.Interval.{range_of};
+    ghost use Rattle.star_interval.specs.{Range.text_of, Interval.range_of};
 
     ghost output = { λ i. Some (text_of (range_of i)) };
 

@@ -1,7 +1,5 @@
 -- The lines of a report from one on.
-use Rattle.std.proofs.Common.{◌≡◌, ◌<◌, ◌≤◌, ◌+◌, ℕ, zero, suc, Bool, true, false, List, [], ◌∷◌, ◌++◌, length, map, drop, get_or, Option, Some, None, arith, ap, sym, ◌∙◌, refl, add-one}
-use Rattle.std.proofs.{Math.Seq.drop-cons, lemmas.Bool.lt-ltb, lemmas.List.length-map, lemmas.List.drop_all}
-use Rattle.std.specs.{Option.option_or, Prelude.◌&&◌, Prelude.nat_eq, Prelude.nat_lt, Prelude.if◌then◌else◌}
+use Rattle.std.{proofs.Common.{◌≡◌, ◌<◌, ◌≤◌, ◌+◌, ℕ, zero, suc, Bool, true, false, List, [], ◌∷◌, ◌++◌, length, map, drop, get_or, Option, Some, None, arith, ap, sym, ◌∙◌, refl, add-one}, proofs.Math.Seq.drop-cons, proofs.lemmas.Bool.lt-ltb, proofs.lemmas.List.{length-map, drop_all}, specs.Option.option_or, specs.Prelude.{◌&&◌, nat_eq, nat_lt, if◌then◌else◌}}
 use Rattle.star_schema.specs.declared.group.GroupColumn.{GroupColumn}
 use Rattle.star_program.specs.{declared.group.GroupDecl.GroupDecl, declared.program.Parts.Parts, Faults.group_at, ShowLines.has_column, ShowLines.first_unshown, ShowLines.named_columns, ShowLines.shown_fault}
 

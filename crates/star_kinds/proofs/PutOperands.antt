@@ -1,9 +1,6 @@
 -- The keys and numbers of a put, one after another.
-use Rattle.std.proofs.Common.{◌≡◌, ◌+◌, ℕ, suc, List, Some, None, drop, ap, sym, ◌∙◌, add-one}
-use Rattle.std.proofs.{Math.Seq.drop-cons, lemmas.Option.slice_get_within, lemmas.Option.get_or_from_slice_get}
-use Rattle.std.specs.{Prelude.slice_get, Option.option_or}
-use Rattle.star_program.specs.Faults.{Kinds, operand_fault, keys_fault, fits_key}
-use Rattle.star_program.specs.{declared.fault.Fault.Fault, declared.group.GroupKey.GroupKey}
+use Rattle.std.{proofs.Common.{◌≡◌, ◌+◌, ℕ, suc, List, Some, None, drop, ap, sym, ◌∙◌, add-one}, proofs.Math.Seq.drop-cons, proofs.lemmas.Option.{slice_get_within, get_or_from_slice_get}, specs.Prelude.slice_get, specs.Option.option_or}
+use Rattle.star_program.specs.{Faults.{Kinds, operand_fault, keys_fault, fits_key}, declared.fault.Fault.Fault, declared.group.GroupKey.GroupKey}
 
 here : (n : ℕ) (kinds : Kinds) (ks : List GroupKey) (rs : List ℕ) (i : ℕ) (k : GroupKey) (r : ℕ)
     → slice_get ks i ≡ Some k → slice_get rs i ≡ Some r

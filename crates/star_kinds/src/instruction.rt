@@ -1,13 +1,12 @@
 // The first fault of an instruction.
 
-ghost use Rattle.std.specs.Prelude.{◌≡◌, ◌<◌, Bool, None, length};
-ghost use Rattle.std.specs.Option.{option_or};
+ghost use Rattle.std.specs.{Prelude.{◌≡◌, ◌<◌, Bool, None, length}, Option.option_or};
 ghost use Rattle.star_program.specs.Faults as faults;
 ghost use Rattle.star_program.specs.Faults.{fault_of};
 ghost use Rattle.star_kinds.specs.Kinds.{Answers, register_kinds};
 
 use crate::operands::{Wanted, check_keys, check_numbers, check_operand, check_operation};
-use crate::place::{check_place, check_target};
+use crate::position::{check_place, check_target};
 use crate::register::Kinded;
 use star_program::{Fault, Op, Parts};
 
@@ -20,11 +19,10 @@ fn check_put<R: Kinded>(
 ) -> Result<(), Fault>
     requires there { group < length parts.now.groups }
     requires keys { length keys.now ≡ length (faults.group_at parts.now group).keys }
-    ensures { Answers result (option_or
-        (faults.keys_fault (length registers.now) (register_kinds R.kind registers.now)
-        (faults.group_at parts.now group).keys keys.now)
-        (faults.numbers_fault (length registers.now) (register_kinds R.kind registers.now)
-        values.now)) }
+    ensures { Answers result (option_or (faults.keys_fault (length registers.now)
+        (register_kinds R.kind registers.now) (faults.group_at parts.now group).keys keys.now)
+        (faults.numbers_fault (length registers.now)
+        (register_kinds R.kind registers.now) values.now)) }
 {
     check_keys(registers, parts.group_at(group).keys.as_slice(), keys)?;
     check_numbers(registers, values)

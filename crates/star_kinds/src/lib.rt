@@ -5,7 +5,7 @@
 
 mod instruction;
 mod operands;
-mod place;
+mod position;
 mod register;
 mod report;
 

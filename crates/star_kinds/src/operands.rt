@@ -1,7 +1,6 @@
 // Checks that each operand is a declared register with a value of an allowed kind.
 
-ghost use Rattle.std.specs.Prelude.{◌≡◌, ◌<◌, length, slice_get, Some};
-ghost use Rattle.std.specs.{Option.option_or};
+ghost use Rattle.std.specs.{Prelude.{◌≡◌, ◌<◌, length, slice_get, Some}, Option.option_or};
 ghost use Rattle.star_program.specs.declared.fault.Fault.TheVariants.{BadColumn};
 ghost use Rattle.star_kinds.specs.{Kinds.Answers, Kinds.register_kinds, Private.Taken.taken};
 ghost use Rattle.star_schema.specs.Schema as schema;
@@ -108,11 +107,11 @@ fn check_within<R: Kinded>(registers: &[R], value: u16, from: u16, below: u16) -
     check_operand(registers, Wanted::Like(kind_at(registers, value)), below)
 }
 
-fn entry_at<T: Copy>(entries: &[T], place: usize) -> T
-    requires { place < length entries.now }
-    ensures { slice_get entries.now place ≡ Some result }
+fn entry_at<T: Copy>(entries: &[T], index: usize) -> T
+    requires { index < length entries.now }
+    ensures { slice_get entries.now index ≡ Some result }
 {
-    entries[place]
+    entries[index]
 }
 
 // Checks the keys of a put.
@@ -125,9 +124,9 @@ pub(crate) fn check_keys<R: Kinded>(
     ensures { Answers result (faults.keys_fault (length registers.now)
         (register_kinds R.kind registers.now) declared.now keys.now) }
 {
-    for place in 0..keys.len() {
-        let key = entry_at(declared, place);
-        let number = entry_at(keys, place);
+    for index in 0..keys.len() {
+        let key = entry_at(declared, index);
+        let number = entry_at(keys, index);
         check_operand(registers, Wanted::Key(key), number)?;
     }
     Ok(())
@@ -145,9 +144,8 @@ pub(crate) fn check_numbers<R: Kinded>(registers: &[R], values: &[u16]) -> Resul
 }
 
 fn check_load<R: Kinded>(registers: &[R], column: ColumnId, row: u16) -> Result<(), Fault>
-    ensures { Answers result (option_or
-        (faults.operand_fault (length registers.now) (register_kinds R.kind registers.now)
-        faults.is_row_kind row)
+    ensures { Answers result (option_or (faults.operand_fault (length registers.now)
+        (register_kinds R.kind registers.now) faults.is_row_kind row)
         (faults.unless (faults.is_row_of (schema.table_of column)
         (register_kinds R.kind registers.now row)) BadColumn)) }
 {

@@ -11,8 +11,8 @@ fn has_column(declared: &GroupDecl, column: GroupColumn) -> bool
     ensures { result ≡ shown.has_column declared.now column }
 {
     match column {
-        GroupColumn::Key(place) => (place as usize) < declared.keys.as_slice().len(),
-        GroupColumn::Aggregate(place) => (place as usize) < declared.aggregates.as_slice().len(),
+        GroupColumn::Key(index) => (index as usize) < declared.keys.as_slice().len(),
+        GroupColumn::Aggregate(index) => (index as usize) < declared.aggregates.as_slice().len(),
     }
 }
 

@@ -1,7 +1,5 @@
 -- Reads of a text, and files by their paths.
-use Rattle.std.proofs.Common.{◌≡◌, ◌≤◌, ◌<◌, ◌-◌, ◌+◌, ◌++◌, ◌∷◌, ◌∙◌, ℕ, List, [], Bool, true, false, Some, length, take, drop, get_or, ap, sym, arith}
-use Rattle.std.proofs.lemmas.List.{drop_all, take-append-drop, take_rest}
-use Rattle.std.proofs.Math.Seq.{take-append_seam}
+use Rattle.std.proofs.{Common.{◌≡◌, ◌≤◌, ◌<◌, ◌-◌, ◌+◌, ◌++◌, ◌∷◌, ◌∙◌, ℕ, List, [], Bool, true, false, Some, length, take, drop, get_or, ap, sym, arith}, lemmas.List.{drop_all, take-append-drop, take_rest}, Math.Seq.take-append_seam}
 
 -- the bytes of a read, and those after it
 pub read_on : (left new room : List ℕ) (n : ℕ) → new ≡ take n left → length new ≡ n

@@ -1,6 +1,5 @@
 -- The files of a folder in memory.
-use Rattle.std.specs.Prelude.{ℕ, List, [], ◌∷◌, Option, Some, None, if◌then◌else◌, string_bytes}
-use Rattle.std.specs.{Str.bytes_eq}
+use Rattle.std.specs.{Prelude.{ℕ, List, [], ◌∷◌, Option, Some, None, if◌then◌else◌, string_bytes}, Str.bytes_eq}
 use Rattle.star_library_tests.specs.declared.files.Kept.{Kept}
 
 -- the bytes of the first file at a path, if there is one

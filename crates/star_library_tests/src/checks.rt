@@ -1,4 +1,4 @@
-// What many tests assert, in one place: each assert is dear to prove.
+// What many tests assert, in one position: each assert is dear to prove.
 
 pub(crate) use crate::files::ABOVE_AVERAGE;
 use star_catalogue::{Catalogue, LoadFault, Texts};

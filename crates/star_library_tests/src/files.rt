@@ -1,7 +1,6 @@
 // A folder in memory, whose files give few bytes at once, or fail in the middle.
 
-ghost use Rattle.std.specs.Prelude.{◌≡◌, Some, option_map};
-ghost use Rattle.std.specs.Option.{option_copied};
+ghost use Rattle.std.specs.{Prelude.{◌≡◌, Some, option_map}, Option.option_copied};
 ghost use Rattle.star_library_tests.specs.Folders.{bytes_at};
 
 use crate::streams::Choppy;

@@ -14,9 +14,9 @@ fn bits_of(numbers: &FlatNumbers) -> u32 {
     }
 }
 
-fn number_at(numbers: &FlatNumbers, place: usize) -> Option<i64> {
-    if place < numbers.len() {
-        Some(numbers.get(place))
+fn number_at(numbers: &FlatNumbers, index: usize) -> Option<i64> {
+    if index < numbers.len() {
+        Some(numbers.get(index))
     } else {
         None
     }
@@ -41,15 +41,15 @@ fn numbers_are_kept_in_words_that_widen(rt: HostRuntime) -> Result<(), Fail> {
         numbers.push(number)?;
         check_same(&rt, bits_of(&numbers), bits, &number);
     }
-    for (place, (number, _)) in NUMBERS.iter().enumerate() {
-        check_same(&rt, number_at(&numbers, place), Some(*number), &place);
+    for (index, (number, _)) in NUMBERS.iter().enumerate() {
+        check_same(&rt, number_at(&numbers, index), Some(*number), &index);
     }
     Ok(())
 }
 
-fn text_at(texts: &FlatTexts, place: usize) -> Option<&[u8]> {
-    if place < texts.len() {
-        Some(texts.get(place))
+fn text_at(texts: &FlatTexts, index: usize) -> Option<&[u8]> {
+    if index < texts.len() {
+        Some(texts.get(index))
     } else {
         None
     }
@@ -62,8 +62,8 @@ fn texts_are_kept(rt: HostRuntime) -> Result<(), Fail> {
     for text in ["MAIL", "", "TRUCK"] {
         texts.push(text.as_bytes())?;
     }
-    for (place, text) in ["MAIL", "", "TRUCK"].iter().enumerate() {
-        check_same(&rt, text_at(&texts, place), Some(text.as_bytes()), &place);
+    for (index, text) in ["MAIL", "", "TRUCK"].iter().enumerate() {
+        check_same(&rt, text_at(&texts, index), Some(text.as_bytes()), &index);
     }
     Ok(())
 }

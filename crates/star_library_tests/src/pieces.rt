@@ -67,11 +67,11 @@ fn read_evenly(
     rows_of(reader.finish(alloc))
 }
 
-// The same of parts that come in two pieces each, cut at a place. The last part isn't ended.
+// The same of parts that come in two pieces each, cut at a position. The last part isn't ended.
 fn read_cut(
     alloc: Global,
     parts: &[&[u8]],
-    place: usize,
+    index: usize,
     limits: Limits,
 ) -> Result<Rows, AllocError> {
     let mut reader = TableReader::new(alloc, TableId::Supplier, limits)?;
@@ -79,7 +79,7 @@ fn read_cut(
         if number > 0 {
             reader.end_part(alloc);
         }
-        let cut = place.min(part.len());
+        let cut = index.min(part.len());
         reader.feed(alloc, &part[..cut]);
         reader.feed(alloc, b"");
         reader.feed(alloc, &part[cut..]);
@@ -105,9 +105,9 @@ fn check_parts(
     let limits = Limits::new(3, 0).ok_or("limits")?;
     let whole = rows_of(read_parts(alloc, parts, TableId::Supplier, limits))?;
     check_same(rt, whole, expected, &(parts, "whole"));
-    for place in 0..longest_of(parts).saturating_add(1) {
-        let got = read_cut(alloc, parts, place, limits)?;
-        check_same(rt, got, expected, &(parts, "cut at", place));
+    for index in 0..longest_of(parts).saturating_add(1) {
+        let got = read_cut(alloc, parts, index, limits)?;
+        check_same(rt, got, expected, &(parts, "cut at", index));
     }
     for size in 1..4 {
         let got = read_evenly(alloc, parts, size, limits)?;

@@ -5,8 +5,8 @@ use Rattle.star_program.specs.{declared.program.Parts.Parts, Limits.IsWithinLimi
 use Rattle.star_world.specs.WorldOf.{world_of}
 use Rattle.star_safety.specs.{Admissible.IsAdmissible, Quote.quote}
 
--- the rows are sound, and the program is admissible over them, with no more visits quoted than any run
--- may make
+-- the rows are sound, and the program is admissible over them, with no more visits quoted than any
+-- run may make
 pub record IsAcceptedOver (database : Database) (parts : Parts) : Type 0 where
   pub sound : IsSound database
   pub limits : IsWithinLimits parts

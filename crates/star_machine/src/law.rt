@@ -32,12 +32,10 @@ pub fn admissible_programs_run_over_sound_rows()
 /// refused.
 pub fn admissible_programs_end()
     ensures { (database : Database) (parts : Parts) (visits : ℕ)
-        (result : Result Outcome TrialFault)
-        → IsSound database → IsWithinLimits parts → IsAdmissible (world_of database) parts
-        → quote (world_of database).size parts ≤ visits → visits ≤ 10 ^ 15
-        → IsTrial (world_of database) parts visits result
-        → MatchResult result
-        (λ outcome. outcome.visits ≤ quote (world_of database).size parts)
+        (result : Result Outcome TrialFault) → IsSound database → IsWithinLimits parts
+        → IsAdmissible (world_of database) parts → quote (world_of database).size parts ≤ visits
+        → visits ≤ 10 ^ 15 → IsTrial (world_of database) parts visits result
+        → MatchResult result (λ outcome. outcome.visits ≤ quote (world_of database).size parts)
         (λ fault. fault ≡ OutOfMemory) }
 {
     sound_rows_are_loaded();

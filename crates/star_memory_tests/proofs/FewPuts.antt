@@ -1,12 +1,8 @@
 -- Few puts of numbers of 64 bits, and more of them.
-use Rattle.std.proofs.Common.{◌≡◌, ◌<◌, ◌+◌, ◌^◌, ℕ, ℤ, pos, true, List, [], ◌∷◌, refl, arith, FitsSigned, w64}
-use Rattle.std.specs.List.{All}
-use Rattle.std.proofs.lemmas.List.Elements.{All-cons, All-nil}
-use Rattle.star_interval.specs.Range.{is_i64}
-use Rattle.star_interval.proofs.Ranges.{is_i64_fits}
+use Rattle.std.{proofs.Common.{◌≡◌, ◌<◌, ◌+◌, ◌^◌, ℕ, ℤ, pos, true, List, [], ◌∷◌, refl, arith, FitsSigned, w64}, specs.List.All, proofs.lemmas.List.Elements.{All-cons, All-nil}}
+use Rattle.star_interval.{specs.Range.is_i64, proofs.Ranges.is_i64_fits}
 use Rattle.star_program.specs.Puts.{Update}
-use Rattle.star_group.specs.Stores.{Group, HasRoom}
-use Rattle.star_group.proofs.SmallNumbers.{few_room}
+use Rattle.star_group.{specs.Stores.{Group, HasRoom}, proofs.SmallNumbers.few_room}
 use Rattle.star_memory_tests.specs.Few.{AreFew}
 
 abbrev Narrow : ℤ → Type 0

@@ -6,7 +6,9 @@ use star_column::{ColumnData, NumberColumn, PackedColumn, TextColumn};
 use star_engine::{FileFault, Input, read_expected, read_part, read_whole};
 use star_flat::{FlatNumbers, RepeatedTexts};
 use star_reader::{RawTable, ReadFault, TableReader, read_parts, read_table};
-use star_schema::{ColumnId, Kind, Limits, TABLES, TableId, columns, kind_of, place_of, table_of};
+use star_schema::{
+    ColumnId, Kind, Limits, TABLES, TableId, columns, kind_of, position_of, table_of,
+};
 use std::alloc::{AllocError, Global};
 use std::fmt::Write;
 use std::test::Fail;
@@ -38,10 +40,10 @@ impl Cells for RawTable {
         if self.table() != table_of(column) || self.rows() <= row {
             return Ok(());
         }
-        let place = place_of(column);
+        let index = position_of(column);
         match kind_of(column) {
-            Kind::Number => write!(text, "{}|", self.number(row, place)),
-            Kind::Text => push_bytes(text, self.text(row, place)),
+            Kind::Number => write!(text, "{}|", self.number(row, index)),
+            Kind::Text => push_bytes(text, self.text(row, index)),
         }
     }
 }

@@ -18,7 +18,7 @@ const ONE: KeyValue = KeyValue::Number(1);
 
 const TWO: KeyValue = KeyValue::Number(2);
 
-// The expected ranges of the keys: an array of groups has no place for the second put.
+// The expected ranges of the keys: an array of groups has no position for the second put.
 const EXPECTED: [Interval; 2] = [Interval { low: 1, high: 2 }, Interval { low: 2, high: 2 }];
 
 const SHAPES: [Shape; 3] = [Shape::Plain, Shape::Rollup, Shape::Cube];
@@ -176,8 +176,8 @@ fn aggregates_at(rows: &GroupRows, number: usize) -> Row {
 }
 
 fn has_keys(rows: &GroupRows, number: usize, keys: &[Option<KeyValue>]) -> bool {
-    for place in 0..keys.len() {
-        if rows.key(number, place) != keys[place] {
+    for index in 0..keys.len() {
+        if rows.key(number, index) != keys[index] {
             return false;
         }
     }

@@ -1,13 +1,9 @@
 -- Sums of all that plain groups add are merged groups.
-use Rattle.std.proofs.Common.{◌≡◌, ◌∙◌, ◌⊎◌, ℕ, Bool, true, false, ◌||◌, List, [], ◌∷◌, ◌++◌, Option, Some, None, cond, map, refl, sym, subst, ap, inl, inr, ⊎_elim, true≢false, IsTrue}
-use Rattle.std.proofs.{lemmas.Bool.or_cases, lemmas.Bool.or_left, lemmas.List.append_assoc, lemmas.List.map-append, lemmas.List.Elements.Contains-append_right, lemmas.List.Elements.filter-append, lemmas.List.Folds.list_any-append}
-use Rattle.std.specs.{Prelude.ℤ, Prelude.filter, Prelude.replicate, Bool.Decides, List.Contains, Ordering.is_eq, declared.cmp.Ordering.Ordering}
+use Rattle.std.{proofs.Common.{◌≡◌, ◌∙◌, ◌⊎◌, ℕ, Bool, true, false, ◌||◌, List, [], ◌∷◌, ◌++◌, Option, Some, None, cond, map, refl, sym, subst, ap, inl, inr, ⊎_elim, true≢false, IsTrue}, proofs.lemmas.Bool.{or_cases, or_left}, proofs.lemmas.List.{append_assoc, map-append}, proofs.lemmas.List.Elements.{Contains-append_right, filter-append}, proofs.lemmas.List.Folds.list_any-append, specs.Prelude.{ℤ, filter, replicate}, specs.Bool.Decides, specs.List.Contains, specs.Ordering.is_eq, specs.declared.cmp.Ordering.Ordering}
 use Rattle.star_schema.specs.{declared.group.Aggregate.Aggregate, declared.group.Shape.Shape, Groups.GroupRow, Groups.is_grouping, Groups.totals_of}
-use Rattle.star_merge_laws.specs.{Merging.total_over, Regrouping.AreAddedUp, Regrouping.all_added, Regrouping.are_same}
+use Rattle.star_merge_laws.{specs.Merging.total_over, specs.Regrouping.{AreAddedUp, all_added, are_same}, proofs.Regrouping.{filter_mapped, keys_are}}
 use Rattle.star_program.specs.Puts.{masks}
-use Rattle.star_merge_laws.proofs.Regrouping.{filter_mapped, keys_are}
-use Rattle.star_merge.specs.Private.Adding.{AreSums, addends, empty_total, is_there, masked, total_at}
-use Rattle.star_merge.proofs.{Adding.nothing_added, Alike.from_there, Alike.same_itself, Alike.to_there, Alike.totals_of_sum}
+use Rattle.star_merge.{specs.Private.Adding.{AreSums, addends, empty_total, is_there, masked, total_at}, proofs.Adding.nothing_added, proofs.Alike.{from_there, same_itself, to_there, totals_of_sum}}
 
 -- ---- groupings of keys
 
@@ -85,8 +81,7 @@ module _ {K : Type 0} (cmp : K → K → Ordering)
       by false e found = absurd (true≢false (sym found))
 
   pub added_up_by_sums : (groups sums : List (GroupRow K))
-      → AreSums cmp gs (addends s count gs groups) sums
-      → AreAddedUp cmp s count gs groups sums
+      → AreSums cmp gs (addends s count gs groups) sums → AreAddedUp cmp s count gs groups sums
   added_up_by_sums groups sums h = record {
     each = λ group c. (
       made group (sym (h.alike.keys group.keys) ∙ to_there cmp decides group sums c),
@@ -99,7 +94,8 @@ module _ {K : Type 0} (cmp : K → K → Ordering)
     none = λ is. from_there cmp decides none sums (h.alike.keys none
         ∙ list_any-append (λ row. are_same cmp none row.keys) (empty_total s count gs)
         (all_added s groups)
-        ∙ or_left (is_there cmp none (empty_total s count gs)) (is_there cmp none (all_added s groups))
+        ∙ or_left (is_there cmp none (empty_total s count gs))
+        (is_there cmp none (all_added s groups))
         (ap (λ b. is_there cmp none (cond b (record { keys = none; totals = nothing } ∷ []) [])) is
         ∙ ap (λ b. b || false) (same_itself cmp decides none)));
   }

@@ -1,11 +1,7 @@
 -- Rows that are added up have the keys and the totals of the rows that they are made of.
-use Rattle.std.proofs.Common.{◌≡◌, ◌∙◌, ℕ, ◌+◌, Bool, true, false, ◌||◌, List, [], ◌∷◌, ◌++◌, Option, cond, refl, sym, ap}
-use Rattle.std.proofs.{lemmas.List.Elements.All-cons, lemmas.List.Elements.All-head, lemmas.List.Elements.All-nil, lemmas.List.Elements.All-tail}
-use Rattle.std.specs.{Prelude.ℤ, Prelude.filter, Bool.Decides, List.All, Ordering.is_eq, declared.cmp.Ordering.Ordering}
-use Rattle.star_schema.specs.{declared.group.Aggregate.Aggregate, declared.group.Aggregate.TheVariants.Sum, declared.group.Aggregate.TheVariants.Count, declared.group.Aggregate.TheVariants.Min, declared.group.Aggregate.TheVariants.Max, Groups.GroupRow, Groups.aggregate, Groups.totals_from}
-use Rattle.star_schema.specs.{Groups.totals_of}
-use Rattle.star_merge_laws.specs.{Merging.merged, Merging.merged_totals, Merging.total_over, Regrouping.are_same}
-use Rattle.star_merge_laws.proofs.{Totals.merged_assoc, Totals.merged_comm, Regrouping.keys_are}
+use Rattle.std.{proofs.Common.{◌≡◌, ◌∙◌, ℕ, ◌+◌, Bool, true, false, ◌||◌, List, [], ◌∷◌, ◌++◌, Option, cond, refl, sym, ap}, proofs.lemmas.List.Elements.{All-cons, All-head, All-nil, All-tail}, specs.Prelude.{ℤ, filter}, specs.Bool.Decides, specs.List.All, specs.Ordering.is_eq, specs.declared.cmp.Ordering.Ordering}
+use Rattle.star_schema.specs.{declared.group.Aggregate.Aggregate, declared.group.Aggregate.TheVariants.{Sum, Count, Min, Max}, Groups.{GroupRow, aggregate, totals_from, totals_of}}
+use Rattle.star_merge_laws.{specs.Merging.{merged, merged_totals, total_over}, specs.Regrouping.are_same, proofs.Totals.{merged_assoc, merged_comm}, proofs.Regrouping.keys_are}
 use Rattle.star_merge.specs.Private.Adding.{AddUpAlike, alone, is_there, onto, together, total_at}
 
 -- ---- totals
@@ -33,11 +29,11 @@ none_twice Count = refl
 none_twice Min = refl
 none_twice Max = refl
 
-nothing_from : (K : Type 0) (gs : List Aggregate) (place : ℕ)
-    → merged_totals gs (totals_from {K = K} gs place []) (totals_from {K = K} gs place [])
-    ≡ totals_from {K = K} gs place []
-nothing_from K [] place = refl
-nothing_from K (g ∷ gs) place = λ i. none_twice g i ∷ nothing_from K gs (place + 1) i
+nothing_from : (K : Type 0) (gs : List Aggregate) (index : ℕ)
+    → merged_totals gs (totals_from {K = K} gs index []) (totals_from {K = K} gs index [])
+    ≡ totals_from {K = K} gs index []
+nothing_from K [] index = refl
+nothing_from K (g ∷ gs) index = λ i. none_twice g i ∷ nothing_from K gs (index + 1) i
 
 -- over no rows
 abbrev nothing_of : Type 0 → List Aggregate → List (Option ℤ)
@@ -53,7 +49,8 @@ module _ {K : Type 0} where
     over rows = total_over gs rows
 
     -- what is over nothing adds nothing to what is over rows
-    pub nothing_added : (rows : List (GroupRow K)) → merged_totals gs (nothing_of K gs) (over rows) ≡ over rows
+    pub nothing_added : (rows : List (GroupRow K))
+        → merged_totals gs (nothing_of K gs) (over rows) ≡ over rows
     nothing_added [] = nothing_twice K gs
     nothing_added (row ∷ rows) =
         sym (totals_assoc gs (nothing_of K gs) row.totals (over rows))
@@ -70,14 +67,16 @@ module _ {K : Type 0} where
 
     -- a row alone before others
     alone_over : (row : GroupRow K) (rows : List (GroupRow K))
-        → merged_totals gs (alone gs row).totals (over rows) ≡ merged_totals gs row.totals (over rows)
+        → merged_totals gs (alone gs row).totals (over rows)
+        ≡ merged_totals gs row.totals (over rows)
     alone_over row rows =
         totals_assoc gs row.totals (nothing_of K gs) (over rows)
         ∙ ap (merged_totals gs row.totals) (nothing_added rows)
 
     alone_twice : (row : GroupRow K) → (alone gs (alone gs row)).totals ≡ (alone gs row).totals
     alone_twice row =
-        totals_assoc gs row.totals (nothing_of K gs) (nothing_of K gs) ∙ ap (merged_totals gs row.totals) (nothing_twice K gs)
+        totals_assoc gs row.totals (nothing_of K gs) (nothing_of K gs)
+        ∙ ap (merged_totals gs row.totals) (nothing_twice K gs)
 
 -- ---- a row before others
 
@@ -108,7 +107,11 @@ module _ {K : Type 0} (cmp : K → K → Ordering)
   onto_there keys row (next ∷ rows) = by (same row.keys next.keys) refl
     where
       by : (b : Bool) → same row.keys next.keys ≡ b
-          → there keys (cond b (record { keys = row.keys; totals = merged_totals gs row.totals next.totals } ∷ rows)
+          → there keys (cond b (record {
+            keys = row.keys;
+            totals =
+                merged_totals gs row.totals next.totals;
+          } ∷ rows)
           (alone gs row ∷ next ∷ rows)) ≡ there keys (row ∷ next ∷ rows)
       by true e = or_twice (same keys row.keys) (there keys rows)
           ∙ ap (λ ks. same keys row.keys || (same keys ks || there keys rows))
@@ -126,19 +129,26 @@ module _ {K : Type 0} (cmp : K → K → Ordering)
   onto_at keys row (next ∷ rows) = by (same row.keys next.keys) refl
     where
       alone_first : (b : Bool) (more : List (GroupRow K))
-          → total_over gs (with_first b (alone gs row) more)
-          ≡ total_over gs (with_first b row more)
+          → total_over gs (with_first b (alone gs row) more) ≡ total_over gs (with_first b row more)
       alone_first true more = alone_over gs row more
       alone_first false more = refl
 
       both : (b : Bool) (more : List (GroupRow K))
-          → total_over gs (with_first b (record { keys = row.keys; totals = merged_totals gs row.totals next.totals }) more)
+          → total_over gs (with_first b (record {
+            keys = row.keys;
+            totals =
+                merged_totals gs row.totals next.totals;
+          }) more)
           ≡ total_over gs (with_first b row (with_first b next more))
       both true more = totals_assoc gs row.totals next.totals (total_over gs more)
       both false more = refl
 
       by : (b : Bool) → same row.keys next.keys ≡ b
-          → at keys (cond b (record { keys = row.keys; totals = merged_totals gs row.totals next.totals } ∷ rows)
+          → at keys (cond b (record {
+            keys = row.keys;
+            totals =
+                merged_totals gs row.totals next.totals;
+          } ∷ rows)
           (alone gs row ∷ next ∷ rows)) ≡ at keys (row ∷ next ∷ rows)
       by true e = both (same keys row.keys) (with_keys keys rows)
           ∙ ap (λ ks. total_over gs (with_first (same keys row.keys) row

@@ -1,16 +1,10 @@
 -- Rows that add up alike: in any order, one after another, and as sums.
-use Rattle.std.proofs.Common.{◌≡◌, ◌∙◌, Bool, true, false, ◌||◌, List, [], ◌∷◌, ◌++◌, Option, Some, None, cond, refl, sym, subst, ap, true≢false, ⊎_elim}
-use Rattle.std.proofs.lemmas.Bool.{or_cases, or_left, or_parts, or_from, or_right}
-use Rattle.std.proofs.{lemmas.List.Elements.All-head, lemmas.List.Elements.All-tail, lemmas.List.Elements.filter-append, lemmas.List.Folds.list_any-append, lemmas.List.Sorted.All-permutation}
-use Rattle.std.specs.{Prelude.ℤ, Prelude.filter, Bool.Decides, Cmp.Lexicographic.slice_cmp, List.All, List.Contains, List.Sorted.IsPermutation, Ordering.is_eq, Ordering.ordering_then, declared.cmp.Ordering.Ordering, declared.cmp.Ordering.TheVariants.Less}
-use Rattle.std.specs.{declared.cmp.Ordering.TheVariants.Equal, declared.cmp.Ordering.TheVariants.Greater}
+use Rattle.std.{proofs.Common.{◌≡◌, ◌∙◌, Bool, true, false, ◌||◌, List, [], ◌∷◌, ◌++◌, Option, Some, None, cond, refl, sym, subst, ap, true≢false, ⊎_elim}, proofs.lemmas.Bool.{or_cases, or_left, or_parts, or_from, or_right}, proofs.lemmas.List.Elements.{All-head, All-tail, filter-append}, proofs.lemmas.List.Folds.list_any-append, proofs.lemmas.List.Sorted.All-permutation, specs.Prelude.{ℤ, filter}, specs.Bool.Decides, specs.Cmp.Lexicographic.slice_cmp, specs.List.{All, Contains}, specs.List.Sorted.IsPermutation, specs.Ordering.{is_eq, ordering_then}, specs.declared.cmp.Ordering.Ordering, specs.declared.cmp.Ordering.TheVariants.{Less, Equal, Greater}}
 use Rattle.star_common.proofs.Members.{contains_cases, contains_here, contains_later, contains_none}
 use Rattle.star_schema.specs.{declared.group.Aggregate.Aggregate, Groups.GroupRow, Order.key_cmp}
-use Rattle.star_merge_laws.specs.{Merging.merged_totals, Merging.total_over, Regrouping.are_same}
-use Rattle.star_merge_laws.proofs.Regrouping.{keys_are}
+use Rattle.star_merge_laws.{specs.Merging.{merged_totals, total_over}, specs.Regrouping.are_same, proofs.Regrouping.keys_are}
 use Rattle.star_query_meaning.proofs.Reorderings.{reordered}
-use Rattle.star_merge.specs.Private.Adding.{AddUpAlike, AreApart, AreSums, alone, is_there, total_at}
-use Rattle.star_merge.proofs.Adding.{over_append, totals_assoc, totals_comm}
+use Rattle.star_merge.{specs.Private.Adding.{AddUpAlike, AreApart, AreSums, alone, is_there, total_at}, proofs.Adding.{over_append, totals_assoc, totals_comm}}
 
 or_swap : (a b c : Bool) → (a || (b || c)) ≡ (b || (a || c))
 or_swap true true c = refl
@@ -46,7 +40,8 @@ module _ {K : Type 0} (cmp : K → K → Ordering)
     where
       by : (c : Bool) → same b a ≡ c → c ≡ false
       by false h = refl
-      by true h = absurd (true≢false (sym (same_itself a) ∙ ap (same a) (sym (keys_are cmp decides b a h)) ∙ e))
+      by true h = absurd (true≢false (sym (same_itself a)
+          ∙ ap (same a) (sym (keys_are cmp decides b a h)) ∙ e))
 
   pub from_there : (keys : List (Option K)) (rows : List (GroupRow K)) → there keys rows ≡ true
       → (row : GroupRow K) × Contains rows row × (row.keys ≡ keys)
@@ -91,7 +86,11 @@ module _ {K : Type 0} (cmp : K → K → Ordering)
     }
 
     pub alike_sym : (xs ys : List (GroupRow K)) → Alike xs ys → Alike ys xs
-    alike_sym xs ys a = record { keys = λ keys. sym (a.keys keys); totals = λ keys. sym (a.totals keys) }
+    alike_sym xs ys a = record {
+      keys = λ keys. sym (a.keys keys);
+      totals = λ keys.
+          sym (a.totals keys);
+    }
 
     pub at_append : (keys : List (Option K)) (xs ys : List (GroupRow K))
         → at keys (xs ++ ys) ≡ merged_totals gs (at keys xs) (at keys ys)
@@ -159,7 +158,8 @@ module _ {K : Type 0} (cmp : K → K → Ordering)
             (λ x y rows. record {
               keys = λ keys. or_swap (same keys x.keys) (same keys y.keys) (there keys rows);
               apart = λ h. let parts = or_parts (same x.keys y.keys) (there x.keys rows) h.0 in (
-                or_from (same y.keys x.keys) (there y.keys rows) (not_same x.keys y.keys parts.0) h.1.0,
+                or_from (same y.keys x.keys) (there y.keys rows)
+                    (not_same x.keys y.keys parts.0) h.1.0,
                 (parts.1, h.1.1),
               );
             })
@@ -167,7 +167,8 @@ module _ {K : Type 0} (cmp : K → K → Ordering)
     pub sums_reordered : (rows sums others : List (GroupRow K)) → IsPermutation sums others
         → AreSums cmp gs rows sums → AreSums cmp gs rows others
     sums_reordered rows sums others moved h = record {
-      alike = alike_trans others sums rows (alike_sym sums others (alike_reordered sums others moved))
+      alike = alike_trans others sums rows (alike_sym sums others
+          (alike_reordered sums others moved))
           h.alike;
       whole = All-permutation (λ (row : GroupRow K). (alone gs row).totals ≡ row.totals) sums others
           moved h.whole;
@@ -198,7 +199,8 @@ module _ {K : Type 0} (cmp : K → K → Ordering)
     own_totals (first ∷ rows) apart whole row c =
         ⊎_elim {C = at row.keys (first ∷ rows) ≡ row.totals}
         (λ e. subst (λ (r : GroupRow K). at r.keys (first ∷ rows) ≡ r.totals) e
-        (ap (λ b. total_over gs (with_first b first (with_keys first.keys rows))) (same_itself first.keys)
+        (ap (λ b. total_over gs (with_first b first (with_keys first.keys rows)))
+        (same_itself first.keys)
         ∙ ap (λ more. merged_totals gs first.totals (total_over gs more))
         (none_there first.keys rows apart.0)
         ∙ All-head (λ (r : GroupRow K). (alone gs r).totals ≡ r.totals) first rows whole))

@@ -1,6 +1,5 @@
 -- Cells in flat storage, one after another.
-use Rattle.std.proofs.Common.{◌≡◌, ◌∙◌, ◌+◌, ◌<◌, ◌≤◌, ◌++◌, ℕ, suc, zero, ℤ, List, [], ◌∷◌, Some, add-one, ap, arith, get_or, length, refl, slice_get, sym, take}
-use Rattle.std.proofs.lemmas.List.{length-append, take_all, take_more}
+use Rattle.std.proofs.{Common.{◌≡◌, ◌∙◌, ◌+◌, ◌<◌, ◌≤◌, ◌++◌, ℕ, suc, zero, ℤ, List, [], ◌∷◌, Some, add-one, ap, arith, get_or, length, refl, slice_get, sym, take}, lemmas.List.{length-append, take_all, take_more}}
 use Rattle.star_program.specs.declared.outcome.Cell.{Cell}
 use Rattle.star_merge.specs.Private.Flat.{AreFlattened, flat_cell, flat_cells}
 

@@ -8,3 +8,5 @@ pub mod Steps
 pub mod PlainReports
 pub mod Hulls
 pub mod FlatCells
+pub mod Small
+pub mod Reaches

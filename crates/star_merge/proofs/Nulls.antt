@@ -1,17 +1,10 @@
 -- Merged groups have the same NULLs.
-use Rattle.std.proofs.Common.{◌≡◌, ◌∙◌, ◌||◌, ℕ, zero, suc, ◌+◌, Bool, true, false, List, [], ◌∷◌, Option, Some, None, cond, length, map, refl, sym, subst, ap, inl, inr, ⊎_elim, true≢false, arith, IsTrue}
-use Rattle.std.proofs.lemmas.List.Elements.{All-append, All-contains, All-filter, All-head, All-map, All-nil, All-tail}
-use Rattle.std.proofs.{lemmas.Bool.or_cases, lemmas.List.length-map, lemmas.List.Folds.list_any-append}
-use Rattle.std.specs.{Prelude.ℤ, Prelude.filter, Prelude.replicate, List.All, List.Contains, List.flat_map, Option.is_some, Option.option_to_list}
+use Rattle.std.{proofs.Common.{◌≡◌, ◌∙◌, ◌||◌, ℕ, zero, suc, ◌+◌, Bool, true, false, List, [], ◌∷◌, Option, Some, None, cond, length, map, refl, sym, subst, ap, inl, inr, ⊎_elim, true≢false, arith, IsTrue}, proofs.lemmas.List.Elements.{All-append, All-contains, All-filter, All-head, All-map, All-nil, All-tail}, proofs.lemmas.Bool.or_cases, proofs.lemmas.List.length-map, proofs.lemmas.List.Folds.list_any-append, specs.Prelude.{ℤ, filter, replicate}, specs.List.{All, Contains, flat_map}, specs.Option.{is_some, option_to_list}}
 use Rattle.star_common.proofs.Members.{contains_here, contains_none, from_contains_map}
-use Rattle.star_schema.specs.Groups.{Entry, GroupRow, IsMasked, is_grouping, totals_from}
-use Rattle.star_schema.specs.{declared.group.Aggregate.Aggregate, declared.group.Shape.Shape, Order.value_cmp, Tables.Value}
-use Rattle.star_merge_laws.specs.{Merging.as_row, Merging.merged, Merging.merged_totals, Merging.total_over, Regrouping.added, Regrouping.all_added, Regrouping.are_same}
+use Rattle.star_schema.specs.{Groups.{Entry, GroupRow, IsMasked, is_grouping, totals_from}, declared.group.Aggregate.Aggregate, declared.group.Shape.Shape, Order.value_cmp, Tables.Value}
+use Rattle.star_merge_laws.{specs.Merging.{as_row, merged, merged_totals, total_over}, specs.Regrouping.{added, all_added, are_same}, proofs.Regrouping.{added_group, group_added}, proofs.Values.value_decides}
 use Rattle.star_program.specs.Puts.{masks}
-use Rattle.star_merge_laws.proofs.{Regrouping.added_group, Regrouping.group_added, Values.value_decides}
-use Rattle.star_merge.specs.Private.Adding.{AreSums, addends, empty_total, is_there, total_at}
-use Rattle.star_merge.specs.{Merged.AreOfShape, Merged.IsFull, Private.RowOrder.numbers_in}
-use Rattle.star_merge.proofs.{Addends.at_empty, Addends.there_empty, Alike.from_there, Alike.to_there, Alike.totals_of_sum}
+use Rattle.star_merge.{specs.Private.Adding.{AreSums, addends, empty_total, is_there, total_at}, specs.Merged.{AreOfShape, IsFull}, specs.Private.RowOrder.numbers_in, proofs.Addends.{at_empty, there_empty}, proofs.Alike.{from_there, to_there, totals_of_sum}}
 
 abbrev full : List Aggregate → List Bool
 full gs = map (λ g. true) gs
@@ -37,7 +30,8 @@ numbers_merged [] xs ys h e = refl
 numbers_merged (g ∷ gs) [] ys h e = absurd (true≢false (sym (ap head_of h)))
 numbers_merged (g ∷ gs) (x ∷ xs) [] h e = absurd (omega (arith, e))
 numbers_merged (g ∷ gs) (x ∷ xs) (y ∷ ys) h e =
-    λ i. some_merged g x y (ap head_of h) i ∷ numbers_merged gs xs ys (ap tail_of h) (omega (arith, e)) i
+    λ i. some_merged g x y (ap head_of h) i
+    ∷ numbers_merged gs xs ys (ap tail_of h) (omega (arith, e)) i
 
 length_merged : (gs : List Aggregate) (xs ys : List (Option ℤ)) → length xs ≡ length gs
     → length ys ≡ length gs → length (merged_totals gs xs ys) ≡ length gs
@@ -47,10 +41,10 @@ length_merged (g ∷ gs) (x ∷ xs) [] h e = absurd (omega (arith, e))
 length_merged (g ∷ gs) (x ∷ xs) (y ∷ ys) h e =
     ap suc (length_merged gs xs ys (omega (arith, h)) (omega (arith, e)))
 
-length_none : (gs : List Aggregate) (place : ℕ)
-    → length (totals_from {K = Value} gs place []) ≡ length gs
-length_none [] place = refl
-length_none (g ∷ gs) place = ap suc (length_none gs (place + 1))
+length_none : (gs : List Aggregate) (index : ℕ)
+    → length (totals_from {K = Value} gs index []) ≡ length gs
+length_none [] index = refl
+length_none (g ∷ gs) index = ap suc (length_none gs (index + 1))
 
 abbrev HasNumbers : List Aggregate → GroupRow Value → Type 0
 HasNumbers gs row = numbers_in row ≡ full gs
@@ -80,7 +74,8 @@ numbers_over gs keys (row ∷ rows) all found =
     by : (b : Bool) → are_same value_cmp keys row.keys ≡ b
         → (is_there value_cmp keys rows ≡ true
         → map is_some (total_at value_cmp gs keys rows) ≡ full gs)
-        → map is_some (total_over gs (cond b (row ∷ filter (λ r. are_same value_cmp keys r.keys) rows)
+        → map is_some (total_over gs (cond b (row
+        ∷ filter (λ r. are_same value_cmp keys r.keys) rows)
         (filter (λ r. are_same value_cmp keys r.keys) rows))) ≡ full gs
     by true e later =
         numbers_merged gs row.totals (total_at value_cmp gs keys rows)
@@ -121,11 +116,14 @@ module _ (s : Shape) (count : ℕ) (gs : List Aggregate) where
       → AreSums value_cmp gs (addends s count gs (group ∷ groups)) sums
       → (row : GroupRow Value) → Contains sums row → HasNumbers gs row
   sum_numbers group groups sums all h row c =
-      ap (map is_some) (totals_of_sum value_cmp value_decides gs (addends s count gs (group ∷ groups)) sums h row c
+      ap (map is_some) (totals_of_sum value_cmp value_decides gs
+      (addends s count gs (group ∷ groups)) sums h row c
       ∙ at_empty value_cmp value_decides s count gs row.keys (all_added s (group ∷ groups)))
-      ∙ numbers_over gs row.keys (all_added s (group ∷ groups)) (all_numbers (group ∷ groups) all) found
+      ∙ numbers_over gs row.keys (all_added s (group ∷ groups))
+      (all_numbers (group ∷ groups) all) found
     where
-      of_none : IsTrue (is_grouping s none) → is_there value_cmp none (all_added s (group ∷ groups)) ≡ true
+      of_none : IsTrue (is_grouping s none)
+          → is_there value_cmp none (all_added s (group ∷ groups)) ≡ true
       of_none is =
           let more = group_added value_cmp value_decides s (group ∷ groups) none (as_row group) is
           (contains_here (as_row group) (map as_row groups))
@@ -186,8 +184,8 @@ no_keys s told gs empty more c =
 
 -- the sums of groups of rows, or of groups by no key, have the same NULLs
 pub same_nulls : (s : Shape) (count : ℕ) (gs : List Aggregate) (told sums : List (GroupRow Value))
-    → AreOfShape count gs told → AreSums value_cmp gs (addends s count gs told) sums → (a b : GroupRow Value)
-    → Contains sums a → Contains sums b → numbers_in a ≡ numbers_in b
+    → AreOfShape count gs told → AreSums value_cmp gs (addends s count gs told) sums
+    → (a b : GroupRow Value) → Contains sums a → Contains sums b → numbers_in a ≡ numbers_in b
 same_nulls s count gs told sums (inl by_none) h =
     one_key s count gs told sums h
     (λ more c. no_keys s told gs by_none.1 more c ∙ ap (λ n. replicate n None) (sym by_none.0))

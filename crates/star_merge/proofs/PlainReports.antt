@@ -1,22 +1,12 @@
 -- Merged rows of plain reports are the answer over all parts.
-use Rattle.std.proofs.Common.{◌≡◌, ◌≢◌, ◌∙◌, AllPairs, append_assoc, ℕ, zero, suc, ◌+◌, Bool, true, false, List, [], ◌∷◌, ◌++◌, Option, Some, None, cond, drop, get_or, length, map, refl, sym, subst, ap, inl, inr, ⊎_elim, take, true≢false, arith}
-use Rattle.std.proofs.lemmas.List.{length-append, length-map, length-replicate, map-append, map-id}
-use Rattle.std.proofs.lemmas.List.Elements.{All-append, All-contains, All-cons, All-from_recursion, All-head, All-map, All-nil, All-tail}
-use Rattle.std.specs.Prelude.{ℤ, pos, ◌+ℤ◌, filter, replicate}
-use Rattle.std.specs.{Int.int_min, Int.int_max, List.All, List.Contains, List.flat_map, List.list_all, Option.is_some}
+use Rattle.std.{proofs.Common.{◌≡◌, ◌≢◌, ◌∙◌, AllPairs, append_assoc, ℕ, zero, suc, ◌+◌, ◌<◌, ◌^◌, Bool, true, false, List, [], ◌∷◌, ◌++◌, Option, Some, None, cond, drop, get_or, length, map, refl, sym, subst, ap, inl, inr, ⊎_elim, take, true≢false, arith}, proofs.lemmas.List.{length-append, length-map, length-replicate, map-append, map-id}, proofs.lemmas.List.Elements.{All-append, All-contains, All-cons, All-from_recursion, All-head, All-map, All-nil, All-tail}, specs.Prelude.{ℤ, pos, ◌+ℤ◌, filter, replicate}, specs.Int.{int_min, int_max}, specs.List.{All, Contains, flat_map, list_all}, specs.Option.is_some}
 use Rattle.star_common.proofs.Members.{contains_cases, contains_none, map_agree, of_each}
-use Rattle.star_schema.specs.Groups.{AreGroups, Entry, GroupRow, IsMasked, aggregate, belongs, joined, joined_with, members, numbers_for, totals_from, totals_of}
-use Rattle.star_schema.specs.{declared.group.Aggregate.Aggregate, declared.group.Aggregate.TheVariants.Sum, declared.group.Aggregate.TheVariants.Count, declared.group.Aggregate.TheVariants.Min, declared.group.Aggregate.TheVariants.Max, declared.group.GroupColumn.GroupColumn}
-use Rattle.star_schema.specs.{declared.group.Shape.TheVariants.Plain, Database.Database, Order.value_cmp, Tables.Value, Tables.Number, Tables.Text}
-use Rattle.star_plan.specs.{Meaning.Plan, Meaning.aggregate_of, Meaning.entry_of, Meaning.plan_rows, Sound.IsSoundPlan}
+use Rattle.star_schema.specs.{Groups.{AreGroups, Entry, GroupRow, IsMasked, aggregate, belongs, joined, joined_with, members, numbers_for, totals_from, totals_of}, declared.group.Aggregate.Aggregate, declared.group.Aggregate.TheVariants.{Sum, Count, Min, Max}, declared.group.GroupColumn.GroupColumn, declared.group.Shape.TheVariants.Plain, Database.Database, Order.value_cmp, Tables.{Value, Number, Text}}
+use Rattle.star_plan.specs.{Meaning.Plan, Meaning.Row, Meaning.aggregate_of, Meaning.entry_of, Meaning.plan_rows, Sound.IsSoundPlan}
 use Rattle.star_program.specs.{declared.outcome.Cell.Cell, RowCells.cell_of, RowCells.key_cell, RowCells.total_cell}
 use Rattle.star_query_meaning.specs.Answers.{IsPlanAnswer, shown_name}
-use Rattle.star_merge_laws.specs.Merging.{AreMerged, IsPart, Part, all_groups, all_rows}
-use Rattle.star_merge_laws.specs.{Plain.columns_at, Plain.plain_plan, Tables.all_of, Tables.tables_with}
-use Rattle.star_merge_laws.proofs.{Merging.belongs_of, Merging.merged_groups, Rows.selected_of_parts, Values.once_in_order, Values.value_decides}
-use Rattle.star_merge.proofs.Addends.{map_twice}
-use Rattle.star_merge.specs.Merged.{AreOfShape, ArePlainReports, IsFull, IsMergedRows, PlainReport, groups_shown}
-use Rattle.star_merge.specs.{Cells.group_of, Cells.key_of, Cells.total_of}
+use Rattle.star_merge_laws.{specs.Merging.{AreMerged, IsPart, Part, all_groups, all_rows}, specs.Plain.{columns_at, plain_plan}, specs.Tables.{all_of, tables_with}, proofs.Merging.{belongs_of, merged_groups}, proofs.Rows.selected_of_parts, proofs.Values.{once_in_order, value_decides}}
+use Rattle.star_merge.{proofs.Addends.map_twice, proofs.Reaches.{IsNarrow, parts_reach}, specs.Merged.{AreOfShape, ArePlainReports, AreSmall, IsFull, IsMergedRows, PlainReport, groups_shown, reach}, specs.Cells.{group_of, key_of, total_of}}
 use Rattle.star_schema.specs.declared.group.GroupColumn.TheVariants as column
 
 -- ---- cells of a group, and the group of its cells
@@ -73,18 +63,21 @@ drop_front (x ∷ xs) ys = drop_front xs ys
 
 group_back : {X Y : Type 0} (xs : List X) (ys : List Y) (group : GroupRow Value)
     → length xs ≡ length group.keys → length ys ≡ length group.totals
-    → group_of (length xs) (map (cell_of group) (columns_at column.Key 0 xs ++ columns_at column.Aggregate 0 ys))
-    ≡ group
+    → group_of (length xs)
+    (map (cell_of group) (columns_at column.Key 0 xs ++ columns_at column.Aggregate 0 ys)) ≡ group
 group_back xs ys group keys totals =
-    let cells = map-append (cell_of group) (columns_at column.Key 0 xs) (columns_at column.Aggregate 0 ys)
+    let cells = map-append (cell_of group) (columns_at column.Key 0 xs)
+    (columns_at column.Aggregate 0 ys)
     ∙ (λ i. cells_from (cell_of group) key_cell column.Key [] group.keys xs (λ n. refl) keys i
-    ++ cells_from (cell_of group) total_cell column.Aggregate [] group.totals ys (λ n. refl) totals i) in
+    ++ cells_from (cell_of group) total_cell column.Aggregate [] group.totals ys
+    (λ n. refl) totals i) in
     let long = keys ∙ sym (length-map group.keys key_cell) in
     (λ i. group_of (long i) (cells i))
     ∙ (λ i. record {
       keys = (ap (map key_of) (take_front (map key_cell group.keys) (map total_cell group.totals))
           ∙ keys_back group.keys) i;
-      totals = (ap (map total_of) (drop_front (map key_cell group.keys) (map total_cell group.totals))
+      totals = (ap (map total_of) (drop_front (map key_cell group.keys)
+          (map total_cell group.totals))
           ∙ totals_back group.totals) i;
     })
 
@@ -98,10 +91,10 @@ same_long [] (k ∷ ks) h = absurd h
 same_long (None ∷ ms) [] h = absurd h
 same_long (Some m ∷ ms) [] h = absurd h
 
-length_totals : (gs : List Aggregate) (place : ℕ) (rows : List (Entry Value))
-    → length (totals_from gs place rows) ≡ length gs
-length_totals [] place rows = refl
-length_totals (g ∷ gs) place rows = ap suc (length_totals gs (place + 1) rows)
+length_totals : (gs : List Aggregate) (index : ℕ) (rows : List (Entry Value))
+    → length (totals_from gs index rows) ≡ length gs
+length_totals [] index rows = refl
+length_totals (g ∷ gs) index rows = ap suc (length_totals gs (index + 1) rows)
 
 all_shown : (ks : List (Option Value)) → list_all is_some ks ≡ true
     → map is_some ks ≡ replicate (length ks) true
@@ -119,12 +112,12 @@ some_aggregate Sum z zs = some_joined (λ x y. x +ℤ y) z (joined (λ x y. x +�
 some_aggregate Min z zs = some_joined int_min z (joined int_min zs)
 some_aggregate Max z zs = some_joined int_max z (joined int_max zs)
 
-some_totals : (gs : List Aggregate) (place : ℕ) (row : Entry Value) (rows : List (Entry Value))
-    → map is_some (totals_from gs place (row ∷ rows)) ≡ map (λ g. true) gs
-some_totals [] place row rows = refl
-some_totals (g ∷ gs) place row rows =
-    λ i. some_aggregate g (get_or row.values place (pos 0)) (numbers_for place rows) i
-    ∷ some_totals gs (place + 1) row rows i
+some_totals : (gs : List Aggregate) (index : ℕ) (row : Entry Value) (rows : List (Entry Value))
+    → map is_some (totals_from gs index (row ∷ rows)) ≡ map (λ g. true) gs
+some_totals [] index row rows = refl
+some_totals (g ∷ gs) index row rows =
+    λ i. some_aggregate g (get_or row.values index (pos 0)) (numbers_for index rows) i
+    ∷ some_totals gs (index + 1) row rows i
 
 -- those that pass a test, where one does
 totals_passed : (gs : List Aggregate) (p : Entry Value → Bool) (rows : List (Entry Value))
@@ -144,7 +137,8 @@ totals_passed gs p (first ∷ rows) row c h =
         (contains_cases first rows row c))
 
 module _ (count : ℕ) (gs : List Aggregate) (rows : List (Entry Value))
-    (groups : List (GroupRow Value)) (long : All (λ (row : Entry Value). length row.keys ≡ count) rows)
+    (groups : List (GroupRow Value))
+    (long : All (λ (row : Entry Value). length row.keys ≡ count) rows)
     (are : AreGroups value_cmp Plain count gs rows groups) where
   keys_long : (group : GroupRow Value) → Contains groups group → length group.keys ≡ count
   keys_long group c =
@@ -161,12 +155,15 @@ module _ (count : ℕ) (gs : List Aggregate) (rows : List (Entry Value))
   group_full : (n : ℕ) → count ≡ suc n → (group : GroupRow Value) → Contains groups group
       → IsFull count gs group
   group_full n some group c = record {
-    keys = all_shown group.keys (are.each group c).0.0 ∙ ap (λ k. replicate k true) (keys_long group c);
+    keys = all_shown group.keys (are.each group c).0.0
+        ∙ ap (λ k. replicate k true) (keys_long group c);
     totals = ap (map is_some) (are.each group c).1
-        ∙ ⊎_elim {C = map is_some (totals_of gs (members value_cmp group.keys rows)) ≡ map (λ g. true) gs}
+        ∙ ⊎_elim {C = map is_some (totals_of gs (members value_cmp group.keys rows))
+        ≡ map (λ g. true) gs}
         (λ of_row. totals_passed gs (λ row. belongs value_cmp group.keys row.keys) rows of_row.0
         of_row.1 (belongs_of value_cmp value_decides group.keys of_row.0.keys of_row.2))
-        (λ none. absurd (true≢false (sym (sym (ap (list_all is_some) (none ∙ ap (λ k. replicate k None) some))
+        (λ none. absurd (true≢false (sym (sym (ap (list_all is_some)
+        (none ∙ ap (λ k. replicate k None) some))
         ∙ (are.each group c).0.0))))
         (are.each group c).0.1;
   }
@@ -190,7 +187,8 @@ module _ (database : Database) (p : Plan) where
   abbrev shown : PlainReport → List (GroupRow Value)
   shown report = map (group_of count) report.rows
 
-  long_keys : (report : PlainReport) → All (λ (row : Entry Value). length row.keys ≡ count) (entries report)
+  long_keys : (report : PlainReport)
+      → All (λ (row : Entry Value). length row.keys ≡ count) (entries report)
   long_keys report =
       All-map (λ (row : Entry Value). length row.keys ≡ count) (entry_of p)
       (plan_rows (tables_with database report.lineorder) p) (λ k d within. length-map p.keys _)
@@ -200,9 +198,12 @@ module _ (database : Database) (p : Plan) where
   shown_groups report is =
       ap (map (group_of count)) is.cells
       ∙ map_twice (λ group. map (cell_of group) (plain_plan p).items) (group_of count) is.groups
-      ∙ map_agree (λ group. group_of count (map (cell_of group) (plain_plan p).items)) (λ group. group)
-      is.groups (All-from_recursion (λ group. group_of count (map (cell_of group) (plain_plan p).items) ≡ group)
-      is.groups (of_each (λ group. group_of count (map (cell_of group) (plain_plan p).items) ≡ group)
+      ∙ map_agree (λ group. group_of count (map (cell_of group) (plain_plan p).items))
+      (λ group. group)
+      is.groups (All-from_recursion (λ group.
+      group_of count (map (cell_of group) (plain_plan p).items) ≡ group)
+      is.groups (of_each (λ group. group_of count (map (cell_of group) (plain_plan p).items)
+      ≡ group)
       is.groups (λ group c. group_back p.keys p.measures group
       (sym (keys_long count gs (entries report) is.groups (long_keys report) is.each_group group c))
       (sym (totals_long count gs (entries report) is.groups (long_keys report) is.each_group group c
@@ -235,7 +236,8 @@ module _ (database : Database) (p : Plan) where
           All-append (IsFull count gs) (shown report) (groups_shown p reports)
           (subst (All (IsFull count gs)) (sym (shown_groups report is))
           (All-from_recursion (IsFull count gs) is.groups (of_each (IsFull count gs) is.groups
-          (group_full count gs (entries report) is.groups (long_keys report) is.each_group n some))))
+          (group_full count gs (entries report) is.groups
+          (long_keys report) is.each_group n some))))
           (full reports (All-tail IsReport report reports are))
 
   pub of_shape : (reports : List PlainReport) → ArePlainReports database p reports
@@ -249,7 +251,8 @@ module _ (database : Database) (p : Plan) where
 
   is_part : (report : PlainReport) → IsReport report → IsPart value_cmp count gs (part_of report)
   is_part report is = record {
-    groups = subst (AreGroups value_cmp Plain count gs (entries report)) (sym (shown_groups report is))
+    groups = subst (AreGroups value_cmp Plain count gs (entries report))
+        (sym (shown_groups report is))
         is.each_group;
     once = subst (λ groups. AllPairs (λ a b. a.keys ≢ b.keys) groups) (sym (shown_groups report is))
         (once_in_order is.groups is.in_order);
@@ -268,8 +271,10 @@ module _ (database : Database) (p : Plan) where
   groups_are [] = refl
   groups_are (report ∷ reports) = ap (λ groups. shown report ++ groups) (groups_are reports)
 
-  rows_are : IsSoundPlan p → (reports : List PlainReport) → all_rows (map part_of reports)
-      ≡ map (entry_of p) (plan_rows (tables_with database (all_of (map (λ report. report.lineorder) reports))) p)
+  rows_are : IsSoundPlan p → (reports : List PlainReport)
+      → all_rows (map part_of reports)
+      ≡ map (entry_of p) (plan_rows (tables_with database
+      (all_of (map (λ report. report.lineorder) reports))) p)
   rows_are sound reports =
       parted reports
       ∙ ap (map (entry_of p)) (sym (selected_of_parts database p sound.joins
@@ -285,6 +290,26 @@ module _ (database : Database) (p : Plan) where
           (flat_map (λ part. plan_rows (tables_with database part) p)
           (map (λ report. report.lineorder) reports)))
 
+  -- fewer than 2^64 rows whose values have 64 bits have small totals
+  pub reports_small : (reports : List PlainReport) (lines : List Row) → IsSoundPlan p
+      → ArePlainReports database p reports
+      → all_of (map (λ report. report.lineorder) reports) ≡ lines
+      → let rows = plan_rows (tables_with database lines) p in
+      length rows < 2 ^ 64 → All IsNarrow (map (entry_of p) rows)
+      → AreSmall (groups_shown p reports)
+  reports_small reports lines sound are same short narrow = λ index.
+      let rows = rows_are sound reports
+      ∙ ap (λ lines. map (entry_of p) (plan_rows (tables_with database lines) p)) same in
+      omega (
+        arith,
+        short,
+        ap length rows,
+        length-map (plan_rows (tables_with database lines) p) (entry_of p),
+        ap (reach index) (groups_are reports),
+        parts_reach count gs index (map part_of reports) (are_parts reports are)
+            (subst (All IsNarrow) (sym rows) narrow),
+      )
+
   pub merged_answer : (reports : List PlainReport) (rows : List (List Cell)) → IsSoundPlan p
       → ArePlainReports database p reports
       → IsMergedRows p.shape count gs p.sorts p.items (groups_shown p reports) rows
@@ -297,7 +322,8 @@ module _ (database : Database) (p : Plan) where
         (rows_are sound reports)
         ((merged_groups value_cmp value_decides count gs p.shape (map part_of reports)
         (are_parts reports are) h.groups).0
-        (subst (λ told. AreMerged value_cmp p.shape count gs told h.groups) (sym (groups_are reports))
+        (subst (λ told. AreMerged value_cmp p.shape count gs told h.groups)
+        (sym (groups_are reports))
         h.merged));
     in_order = h.in_order;
     cells = h.cells;

@@ -1,13 +1,8 @@
 -- Neighbours of sorted rows that become one: no keys are there twice.
-use Rattle.std.proofs.Common.{◌≡◌, ◌∙◌, suc, ◌+◌, Bool, true, false, ◌||◌, List, [], ◌∷◌, Option, cond, get_or, refl, sym, subst, ap, arith, true≢false}
-use Rattle.std.proofs.{lemmas.Bool.or_from}
-use Rattle.std.specs.{Bool.Decides, Cmp.IsTotalOrder, Cmp.Lexicographic.slice_cmp, List.Sorted.IsSortedBy, Ordering.is_eq, Ordering.is_lt, Ordering.ordering_reverse, declared.cmp.Ordering.Ordering, declared.cmp.Ordering.TheVariants.Less, declared.cmp.Ordering.TheVariants.Equal}
-use Rattle.std.specs.{declared.cmp.Ordering.TheVariants.Greater}
+use Rattle.std.{proofs.Common.{◌≡◌, ◌∙◌, suc, ◌+◌, Bool, true, false, ◌||◌, List, [], ◌∷◌, Option, cond, get_or, refl, sym, subst, ap, arith, true≢false}, proofs.lemmas.Bool.or_from, specs.Bool.Decides, specs.Cmp.IsTotalOrder, specs.Cmp.Lexicographic.slice_cmp, specs.List.Sorted.IsSortedBy, specs.Ordering.{is_eq, is_lt, ordering_reverse}, specs.declared.cmp.Ordering.Ordering, specs.declared.cmp.Ordering.TheVariants.{Less, Equal, Greater}}
 use Rattle.star_schema.specs.{declared.group.Aggregate.Aggregate, Groups.GroupRow, Order.key_cmp}
-use Rattle.star_merge_laws.specs.{Merging.merged_totals, Regrouping.are_same}
-use Rattle.star_merge_laws.proofs.Regrouping.{keys_are}
-use Rattle.star_merge.specs.Private.Adding.{AreApart, AreSums, alone, is_there, onto, together}
-use Rattle.star_merge.proofs.Adding.{together_alike, together_whole}
+use Rattle.star_merge_laws.{specs.Merging.merged_totals, specs.Regrouping.are_same, proofs.Regrouping.keys_are}
+use Rattle.star_merge.{specs.Private.Adding.{AreApart, AreSums, alone, is_there, onto, together}, proofs.Adding.{together_alike, together_whole}}
 
 module _ {K : Type 0} (cmp : K → K → Ordering)
     (decides : (a b : K) → Decides (is_eq (cmp a b)) (a ≡ b))
@@ -35,7 +30,8 @@ module _ {K : Type 0} (cmp : K → K → Ordering)
     first_next row rows up,
     rising rows (λ k d from within.
         let e : suc k + 1 ≡ suc (k + 1) = omega arith in
-        subst (λ n. is_lt (by_keys (get_or (row ∷ rows) n d) (get_or (row ∷ rows) (suc k) d)) ≡ false)
+        subst (λ n. is_lt (by_keys (get_or (row ∷ rows) n d) (get_or (row ∷ rows) (suc k) d))
+        ≡ false)
         e (up (suc k) d (omega arith) (omega (arith, within)))),
   )
 
@@ -99,9 +95,8 @@ module _ {K : Type 0} (cmp : K → K → Ordering)
     less_again keys row next (later ∷ rows) same less =
         ap (λ ks. slice_cmp (key_cmp cmp) ks later.keys) same ∙ less
 
-    onto_up : (row next : GroupRow K) (rows : List (GroupRow K))
-        → is_lt (by_keys next row) ≡ false → AreUp (next ∷ rows)
-        → AreUp (onto cmp gs row (next ∷ rows))
+    onto_up : (row next : GroupRow K) (rows : List (GroupRow K)) → is_lt (by_keys next row) ≡ false
+        → AreUp (next ∷ rows) → AreUp (onto cmp gs row (next ∷ rows))
     onto_up row next rows not_less up = by (are_same cmp row.keys next.keys) refl
       where
         by : (b : Bool) → are_same cmp row.keys next.keys ≡ b → AreUp (cond b
@@ -109,7 +104,11 @@ module _ {K : Type 0} (cmp : K → K → Ordering)
             (alone gs row ∷ next ∷ rows))
         by true e = (
           less_again row.keys
-              (record { keys = row.keys; totals = merged_totals gs row.totals next.totals }) next rows
+              (record {
+                keys = row.keys;
+                totals =
+                    merged_totals gs row.totals next.totals;
+              }) next rows
               (keys_are cmp decides row.keys next.keys e) up.0,
           up.1,
         )

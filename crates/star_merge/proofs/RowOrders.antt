@@ -1,13 +1,7 @@
 -- Sorted groups are in the order of a report.
-use Rattle.std.proofs.Common.{◌≡◌, ◌∙◌, ℕ, zero, suc, ◌+◌, ◌<◌, false, true≢false, List, [], ◌∷◌, Option, Some, None, ap, get_or, length, map, sym, subst, refl, arith}
-use Rattle.std.proofs.lemmas.Cmp.{back_total, int_cmp_total, lists_total, nat_list_cmp_total, on_total, then_total, tied_itself}
-use Rattle.std.proofs.{lemmas.Bool.or_parts, lemmas.Map.Keys.sorted_from_all_adjacent}
-use Rattle.std.specs.Ordering.{flip_args, int_cmp, is_eq, is_lt, ordering_reverse, ordering_then}
-use Rattle.std.specs.{Prelude.ℤ, Cmp.IsTotalOrder, Cmp.Lexicographic.slice_cmp, Cmp.Lexicographic.options_total, List.AllByRecursion, List.Contains, List.Sorted.IsSortedBy, List.Sorted.IsStrictlySortedBy, Option.is_some, Option.option_cmp, declared.cmp.Ordering.Ordering}
-use Rattle.std.specs.{declared.cmp.Ordering.TheVariants.Less, declared.cmp.Ordering.TheVariants.Equal, declared.cmp.Ordering.TheVariants.Greater}
+use Rattle.std.{proofs.Common.{◌≡◌, ◌∙◌, ℕ, zero, suc, ◌+◌, ◌<◌, false, true≢false, List, [], ◌∷◌, Option, Some, None, ap, get_or, length, map, sym, subst, refl, arith}, proofs.lemmas.Cmp.{back_total, int_cmp_total, lists_total, nat_list_cmp_total, on_total, then_total, tied_itself}, proofs.lemmas.Bool.or_parts, proofs.lemmas.Map.Keys.sorted_from_all_adjacent, specs.Ordering.{flip_args, int_cmp, is_eq, is_lt, ordering_reverse, ordering_then}, specs.Prelude.ℤ, specs.Cmp.IsTotalOrder, specs.Cmp.Lexicographic.{slice_cmp, options_total}, specs.List.{AllByRecursion, Contains}, specs.List.Sorted.{IsSortedBy, IsStrictlySortedBy}, specs.Option.{is_some, option_cmp}, specs.declared.cmp.Ordering.Ordering, specs.declared.cmp.Ordering.TheVariants.{Less, Equal, Greater}}
 use Rattle.star_common.proofs.Members.{contains_here, contains_later}
-use Rattle.star_schema.specs.{declared.group.GroupColumn.GroupColumn, declared.group.Direction.Direction, declared.group.Direction.TheVariants.Ascending, declared.group.Direction.TheVariants.Descending, declared.group.SortKey.SortKey, Groups.GroupRow, Order.AreInOrder, Order.key_cmp}
-use Rattle.star_schema.specs.{Order.value_cmp, Tables.Value, Tables.Number, Tables.Text}
+use Rattle.star_schema.specs.{declared.group.GroupColumn.GroupColumn, declared.group.Direction.Direction, declared.group.Direction.TheVariants.{Ascending, Descending}, declared.group.SortKey.SortKey, Groups.GroupRow, Order.{AreInOrder, key_cmp, value_cmp}, Tables.{Value, Number, Text}}
 use Rattle.star_merge_laws.proofs.{Regrouping.keys_are, Values.value_decides}
 use Rattle.star_merge.specs.{Private.Adding.AreApart, Private.Adding.is_there, Private.RowOrder.column_order, Private.RowOrder.directed_order, Private.RowOrder.numbers_in, Private.RowOrder.row_order}
 use Rattle.star_schema.specs.declared.group.GroupColumn.TheVariants as column
@@ -54,10 +48,10 @@ pub keys_total : IsTotalOrder (slice_cmp (key_cmp value_cmp))
 keys_total = lists_total (key_total value_total)
 
 column_total : (c : GroupColumn) → IsTotalOrder (column_order c)
-column_total (column.Key place) =
-    on_total (λ (row : GroupRow Value). get_or row.keys place None) (key_total value_total)
-column_total (column.Aggregate place) =
-    on_total (λ (row : GroupRow Value). get_or row.totals place None) (options_total int_cmp_total)
+column_total (column.Key index) =
+    on_total (λ (row : GroupRow Value). get_or row.keys index None) (key_total value_total)
+column_total (column.Aggregate index) =
+    on_total (λ (row : GroupRow Value). get_or row.totals index None) (options_total int_cmp_total)
 
 directed_total : (c : GroupColumn) (d : Direction) → IsTotalOrder (directed_order c d)
 directed_total c Ascending = column_total c
@@ -95,11 +89,11 @@ before_next sorts a b not_after differ = by (row_order sorts b a) refl
 abbrev HaveSameNulls : GroupRow Value → GroupRow Value → Type 0
 HaveSameNulls a b = numbers_in a ≡ numbers_in b
 
-some_at : (xs : List (Option ℤ)) (place : ℕ)
-    → is_some (get_or xs place None) ≡ get_or (map is_some xs) place false
-some_at [] place = refl
+some_at : (xs : List (Option ℤ)) (index : ℕ)
+    → is_some (get_or xs index None) ≡ get_or (map is_some xs) index false
+some_at [] index = refl
 some_at (x ∷ xs) zero = refl
-some_at (x ∷ xs) (suc place) = some_at xs place
+some_at (x ∷ xs) (suc index) = some_at xs index
 
 same_total : (x y : Option ℤ) → is_some x ≡ is_some y
     → report.total_cmp x y ≡ option_cmp int_cmp x y
@@ -110,10 +104,10 @@ same_total None None e = refl
 
 same_column : (c : GroupColumn) (a b : GroupRow Value) → HaveSameNulls a b
     → report.column_cmp value_cmp c a b ≡ column_order c a b
-same_column (column.Key place) a b h = refl
-same_column (column.Aggregate place) a b h =
-    same_total (get_or a.totals place None) (get_or b.totals place None)
-    (some_at a.totals place ∙ ap (λ bs. get_or bs place false) h ∙ sym (some_at b.totals place))
+same_column (column.Key index) a b h = refl
+same_column (column.Aggregate index) a b h =
+    same_total (get_or a.totals index None) (get_or b.totals index None)
+    (some_at a.totals index ∙ ap (λ bs. get_or bs index false) h ∙ sym (some_at b.totals index))
 
 same_directed : (c : GroupColumn) (d : Direction) (a b : GroupRow Value) → HaveSameNulls a b
     → report.sort_cmp value_cmp (record { column = c; direction = d }) a b ≡ directed_order c d a b
@@ -128,15 +122,15 @@ same_order (sort ∷ sorts) a b h =
 
 -- ---- sorted rows
 
-differ_at : (rows : List (GroupRow Value)) (k : ℕ) (d : GroupRow Value)
-    → AreApart value_cmp rows → k + 1 < length rows
-    → (get_or rows k d).keys ≡ (get_or rows (k + 1) d).keys → ⊥
+differ_at : (rows : List (GroupRow Value)) (k : ℕ) (d : GroupRow Value) → AreApart value_cmp rows
+    → k + 1 < length rows → (get_or rows k d).keys ≡ (get_or rows (k + 1) d).keys → ⊥
 differ_at [] k d apart within same = absurd (omega (arith, within))
 differ_at (row ∷ []) k d apart within same = absurd (omega (arith, within))
 differ_at (row ∷ next ∷ rows) zero d apart within same =
     let parts = or_parts (is_eq (slice_cmp (key_cmp value_cmp) row.keys next.keys))
     (is_there value_cmp row.keys rows) apart.0 in
-    true≢false (sym (ap is_eq (tied row.keys)) ∙ ap (λ ks. is_eq (slice_cmp (key_cmp value_cmp) row.keys ks)) same
+    true≢false (sym (ap is_eq (tied row.keys))
+    ∙ ap (λ ks. is_eq (slice_cmp (key_cmp value_cmp) row.keys ks)) same
     ∙ parts.0)
   where
     tied : (ks : List (Option Value)) → slice_cmp (key_cmp value_cmp) ks ks ≡ Equal
@@ -172,7 +166,8 @@ agreed : (sorts : List SortKey) (rows : List (GroupRow Value))
 unfolding IsStrictlySortedBy
 agreed sorts [] same up = tt
 agreed sorts (row ∷ rows) same up = (
-  all_agree sorts row rows (λ b c. same row b (contains_here row rows) (contains_later row rows b c))
+  all_agree sorts row rows (λ b c. same row b (contains_here row rows)
+      (contains_later row rows b c))
       up.0,
   agreed sorts rows (λ a b in_a in_b. same a b (contains_later row rows a in_a)
       (contains_later row rows b in_b)) up.1,

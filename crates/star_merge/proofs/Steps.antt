@@ -1,23 +1,16 @@
 -- Steps of the code that merges groups.
-use Rattle.std.proofs.Common.{◌≡◌, ◌∙◌, ℕ, ◌+◌, ◌-◌, ◌<◌, ◌≤◌, Bool, true, false, List, [], ◌∷◌, ◌++◌, Option, Some, None, append_assoc, arith, cond, drop, get_or, length, map, min, refl, sym, subst, ap, take, true≢false}
-use Rattle.std.proofs.lemmas.List.{append-nil, map-append, reverse-append, reverse-reverse, drop_min, take_min, take_more, take_rest}
-use Rattle.std.proofs.{lemmas.Grind.flat_map-append, lemmas.List.Sorted.IsPermutation-reverse}
-use Rattle.std.specs.{Prelude.ℤ, Prelude.reverse, List.flat_map, List.Sorted.IsPermutation, List.Sorted.IsSortedBy, Option.is_some, Option.option_to_list, Ordering.is_lt}
+use Rattle.std.{proofs.Common.{◌≡◌, ◌∙◌, ℕ, ◌+◌, ◌-◌, ◌<◌, ◌≤◌, Bool, true, false, List, [], ◌∷◌, ◌++◌, Option, Some, None, append_assoc, arith, cond, drop, get_or, length, map, min, refl, sym, subst, ap, take, true≢false}, proofs.lemmas.List.{append-nil, map-append, reverse-append, reverse-reverse, drop_min, take-append-drop, take_min, take_more, take_rest}, proofs.lemmas.Grind.flat_map-append, proofs.lemmas.List.Sorted.IsPermutation-reverse, specs.Prelude.{ℤ, reverse}, specs.List.flat_map, specs.List.Sorted.{IsPermutation, IsSortedBy}, specs.Option.{is_some, option_to_list}, specs.Ordering.is_lt}
 use Rattle.star_schema.specs.{declared.group.Aggregate.Aggregate, declared.group.GroupColumn.GroupColumn, declared.group.Shape.Shape, declared.group.SortKey.SortKey, Groups.GroupRow, Groups.aggregate, Groups.is_grouping, Groups.totals_from, Order.value_cmp, Tables.Value}
 use Rattle.star_program.specs.{declared.outcome.Cell.Cell, RowCells.cell_of}
-use Rattle.star_merge_laws.specs.{Merging.merged_totals, Regrouping.added, Regrouping.all_added, Regrouping.are_same}
-use Rattle.star_merge_laws.proofs.{Regrouping.added_up, Values.value_decides}
-use Rattle.star_merge.specs.Private.Adding.{AddUpAlike, AreSums, HasJoined, addends, alone, empty_total, masked, onto, over_nothing, together}
-use Rattle.star_merge.specs.{Cells.group_of, Cells.key_of, Cells.total_of, Merged.AreOfShape, Merged.IsMergedRows, Private.RowOrder.row_order}
-use Rattle.star_merge.proofs.Alike.{alike_append, alike_itself, alike_reordered, alike_sym, alike_trans, sums_alike, sums_reordered}
-use Rattle.star_merge.proofs.{Addends.added_up_by_sums, Addends.masked_more, Nulls.same_nulls, Rising.sums_of_sorted, RowOrders.in_order, RowOrders.keys_total}
+use Rattle.star_merge_laws.{specs.Merging.merged_totals, specs.Regrouping.{added, all_added, are_same}, proofs.Regrouping.added_up, proofs.Values.value_decides}
+use Rattle.star_merge.{specs.Private.Adding.{AddUpAlike, AreSums, HasJoined, HasMerged, addends, alone, empty_total, masked, onto, over_nothing, reach_at, together}, specs.declared.merging.Merging.Merging, specs.Cells.{group_of, key_of, total_of}, specs.Merged.{AreOfShape, AreSmall, IsMergedRows, reach}, specs.Private.RowOrder.row_order, proofs.Alike.{alike_append, alike_itself, alike_reordered, alike_sym, alike_trans, sums_alike, sums_reordered}, proofs.Addends.{added_up_by_sums, masked_more}, proofs.Nulls.same_nulls, proofs.Rising.sums_of_sorted, proofs.RowOrders.{in_order, keys_total}, proofs.Small.{reached_more, small_before}}
 
 -- ---- aggregates over no rows
 
-nothing_mapped : (gs : List Aggregate) (place : ℕ)
-    → totals_from {K = Value} gs place [] ≡ map (λ g. aggregate g []) gs
-nothing_mapped [] place = refl
-nothing_mapped (g ∷ gs) place = ap (λ ts. aggregate g [] ∷ ts) (nothing_mapped gs (place + 1))
+nothing_mapped : (gs : List Aggregate) (index : ℕ)
+    → totals_from {K = Value} gs index [] ≡ map (λ g. aggregate g []) gs
+nothing_mapped [] index = refl
+nothing_mapped (g ∷ gs) index = ap (λ ts. aggregate g [] ∷ ts) (nothing_mapped gs (index + 1))
 
 pub nothing_is : (gs : List Aggregate) → map (λ g. aggregate g []) gs ≡ over_nothing gs
 nothing_is gs = sym (nothing_mapped gs 0)
@@ -39,7 +32,8 @@ joined_more gs groups rest rest' merged merged' group h popped pushed = record {
 }
 
 pub joined_all : (gs : List Aggregate) (groups rest merged : List (GroupRow Value))
-    → HasJoined gs groups rest merged → length rest ≡ 0 → reverse merged ≡ together value_cmp gs groups
+    → HasJoined gs groups rest merged → length rest ≡ 0
+    → reverse merged ≡ together value_cmp gs groups
 joined_all gs groups [] merged h none = h.joined ∙ ap (together value_cmp gs) (sym h.split)
 joined_all gs groups (group ∷ rest) merged h none = absurd (omega (arith, none))
 
@@ -59,14 +53,16 @@ sums_of_moved gs groups sorted merged moved up joined =
 -- ---- groupings
 
 pub masked_last : (s : Shape) (totals : List (Option ℤ)) (first : List (Option Value))
-    → masked s totals first [] ≡ cond (is_grouping s first) (record { keys = first; totals = totals } ∷ []) []
+    → masked s totals first []
+    ≡ cond (is_grouping s first) (record { keys = first; totals = totals } ∷ []) []
 masked_last s totals first =
     by (is_grouping s (first ++ []))
     ∙ ap (λ ks. cond (is_grouping s ks) (record { keys = ks; totals = totals } ∷ []) [])
     (append-nil first)
   where
     by : (b : Bool)
-        → map {B = GroupRow Value} (λ more. record { keys = first ++ more; totals = totals }) (cond b ([] ∷ []) [])
+        → map {B = GroupRow Value} (λ more. record { keys = first ++ more; totals = totals })
+        (cond b ([] ∷ []) [])
         ≡ cond b (record { keys = first ++ []; totals = totals } ∷ []) []
     by true = refl
     by false = refl
@@ -89,7 +85,8 @@ masked_hidden (Some k) keys h = absurd (true≢false h)
 
 pub rows_more : (s : Shape) (count : ℕ) (rows : List (List Cell)) (i : ℕ) → i < length rows
     → all_added s (map (group_of count) (take (i + 1) rows))
-    ≡ all_added s (map (group_of count) (take i rows)) ++ added s (group_of count (get_or rows i []))
+    ≡ all_added s (map (group_of count) (take i rows))
+    ++ added s (group_of count (get_or rows i []))
 rows_more s count rows i within =
     ap (λ xs. all_added s (map (group_of count) xs)) (take_more rows i [] within)
     ∙ ap (all_added s) (map-append (group_of count) (take i rows) (get_or rows i [] ∷ []))
@@ -107,7 +104,8 @@ flat_more f xs i x within is =
 
 -- ---- all groups that were told
 
-pub alike_more : (s : Shape) (count : ℕ) (gs : List Aggregate) (told more groups : List (GroupRow Value))
+alike_more : (s : Shape) (count : ℕ) (gs : List Aggregate)
+    (told more groups : List (GroupRow Value))
     → AddUpAlike value_cmp gs groups (addends s count gs told)
     → AddUpAlike value_cmp gs (groups ++ all_added s more) (addends s count gs (told ++ more))
 alike_more s count gs told more groups h =
@@ -117,13 +115,42 @@ alike_more s count gs told more groups h =
     (alike_append value_cmp value_decides gs groups (addends s count gs told) (all_added s more)
     (all_added s more) h (alike_itself value_cmp value_decides gs (all_added s more)))
 
+-- and groups that were added
+pub merged_more : (s : Shape) (count : ℕ) (gs : List Aggregate) (told more : List (GroupRow Value))
+    (before after : Merging) → HasMerged s count gs told before → after.shape ≡ before.shape
+    → after.count ≡ before.count → after.aggregates.items ≡ before.aggregates.items
+    → after.groups.items ≡ before.groups.items ++ all_added s more
+    → HasMerged s count gs (told ++ more) after
+merged_more s count gs told more before after h shape keys aggregates pushed = record {
+  by_shape = shape ∙ h.by_shape;
+  count = keys ∙ h.count;
+  aggregates = aggregates ∙ h.aggregates;
+  alike = subst (λ xs. AddUpAlike value_cmp gs xs (addends s count gs (told ++ more))) (sym pushed)
+      (alike_more s count gs told more before.groups.items h.alike);
+  within = subst (λ xs. (keys : List (Option Value)) (index : ℕ)
+      → reach_at keys index xs ≤ reach index (told ++ more)) (sym pushed)
+      (reached_more s told more before.groups.items h.within);
+}
+
+-- groups that were told so far, of all
+pub small_so_far : {X : Type 0} (f : X → List (GroupRow Value)) (xs : List X) (i : ℕ) (x : X)
+    (groups : List (GroupRow Value)) → i < length xs → x ≡ get_or xs i x → groups ≡ flat_map f xs
+    → AreSmall groups → AreSmall (flat_map f (take i xs) ++ f x)
+small_so_far f xs i x groups within is told small =
+    subst AreSmall (flat_more f xs i x within is)
+    (small_before (flat_map f (take (i + 1) xs)) (flat_map f (drop (i + 1) xs))
+    (subst AreSmall (told ∙ ap (flat_map f) (sym (take-append-drop (i + 1) xs))
+    ∙ flat_map-append f (take (i + 1) xs) (drop (i + 1) xs)) small))
+
 pub alike_none : (s : Shape) (count : ℕ) (gs : List Aggregate)
     → AddUpAlike value_cmp gs (empty_total s count gs) (addends s count gs [])
 alike_none s count gs =
-    subst (AddUpAlike value_cmp gs (empty_total s count gs)) (sym (append-nil (empty_total s count gs)))
+    subst (AddUpAlike value_cmp gs (empty_total s count gs))
+    (sym (append-nil (empty_total s count gs)))
     (alike_itself value_cmp value_decides gs (empty_total s count gs))
 
-pub alike_sums : (s : Shape) (count : ℕ) (gs : List Aggregate) (told groups sums : List (GroupRow Value))
+pub alike_sums : (s : Shape) (count : ℕ) (gs : List Aggregate)
+    (told groups sums : List (GroupRow Value))
     → AddUpAlike value_cmp gs groups (addends s count gs told) → AreSums value_cmp gs groups sums
     → AddUpAlike value_cmp gs sums (addends s count gs told)
 alike_sums s count gs told groups sums h is =
@@ -159,15 +186,21 @@ reverse_push : (groups : List (GroupRow Value)) (group : GroupRow Value)
     → reverse (groups ++ group ∷ []) ≡ group ∷ reverse groups
 reverse_push groups group = reverse-append groups (group ∷ [])
 
-pub pushed_none : (gs : List Aggregate) (old new : List (GroupRow Value)) (group merged : GroupRow Value)
+pub pushed_none : (gs : List Aggregate) (old new : List (GroupRow Value))
+    (group merged : GroupRow Value)
     → old ≡ [] → new ≡ old ++ merged ∷ []
-    → merged ≡ record { keys = group.keys; totals = merged_totals gs group.totals (over_nothing gs) }
+    → merged ≡ record {
+      keys = group.keys;
+      totals =
+          merged_totals gs group.totals (over_nothing gs);
+    }
     → reverse new ≡ onto value_cmp gs group (reverse old)
 pushed_none gs old new group merged none pushed is =
     ap reverse (pushed ∙ ap (λ xs. xs ++ merged ∷ []) none) ∙ ap (λ m. m ∷ []) is
     ∙ ap (λ xs. onto value_cmp gs group (reverse xs)) (sym none)
 
-module _ (gs : List Aggregate) (old new front : List (GroupRow Value)) (group last merged : GroupRow Value)
+module _ (gs : List Aggregate) (old new front : List (GroupRow Value))
+    (group last merged : GroupRow Value)
     (popped : old ≡ front ++ last ∷ []) where
   turned : onto value_cmp gs group (last ∷ reverse front) ≡ onto value_cmp gs group (reverse old)
   turned = ap (onto value_cmp gs group) (sym (reverse_push front last) ∙ ap reverse (sym popped))
@@ -182,7 +215,11 @@ module _ (gs : List Aggregate) (old new front : List (GroupRow Value)) (group la
       ∙ turned
 
   pub pushed_other : are_same value_cmp group.keys last.keys ≡ false
-      → merged ≡ record { keys = group.keys; totals = merged_totals gs group.totals (over_nothing gs) }
+      → merged ≡ record {
+        keys = group.keys;
+        totals =
+            merged_totals gs group.totals (over_nothing gs);
+      }
       → new ≡ (front ++ last ∷ []) ++ merged ∷ []
       → reverse new ≡ onto value_cmp gs group (reverse old)
   pushed_other differ is pushed =
@@ -229,8 +266,10 @@ pub row_groupings : (s : Shape) (count n : ℕ) (row front back first : List Cel
     → masked s totals (map key_of first) (flat_map option_to_list (map key_of front))
     ≡ added s (group_of count row)
 row_groupings s count n row front back first totals n_is front_is back_is totals_are none =
-    (λ i. masked s (totals_are i) (map key_of (none i)) (flat_map option_to_list (map key_of (front_is i))))
-    ∙ (λ i. masked s (map total_of (back_is i)) [] (flat_map option_to_list (map key_of (take (n_is i) row))))
+    (λ i. masked s (totals_are i) (map key_of (none i))
+    (flat_map option_to_list (map key_of (front_is i))))
+    ∙ (λ i. masked s (map total_of (back_is i)) []
+    (flat_map option_to_list (map key_of (take (n_is i) row))))
     ∙ (λ i. masked s (map total_of (drop (n_is i) row)) []
     (flat_map option_to_list (map key_of (take_min count row i))))
     ∙ (λ i. masked s (map total_of (drop_min count row i)) []

@@ -1,6 +1,5 @@
 -- The rows of merged groups.
-use Rattle.std.specs.Prelude.{◌≡◌, ◌⊎◌, ℕ, All, List, [], length, map, replicate, true}
-use Rattle.std.specs.{Option.is_some, List.flat_map}
+use Rattle.std.specs.{Prelude.{◌≡◌, ◌⊎◌, ◌<◌, ◌^◌, ℕ, ℤ, All, List, [], None, Option, Some, length, map, replicate, slice_index_or, true, unsigned_abs}, Option.is_some, List.{flat_map, sum_by}}
 use Rattle.star_schema.specs.{declared.group.Aggregate.Aggregate, declared.group.GroupColumn.GroupColumn, declared.group.Shape.Shape, declared.group.SortKey.SortKey, Groups.GroupRow, Order.AreInOrder, Order.value_cmp, Tables.Value, Database.Database}
 use Rattle.star_program.specs.{declared.outcome.Cell.Cell, RowCells.cell_of}
 use Rattle.star_query_meaning.specs.Answers.{IsPlanAnswer}
@@ -18,6 +17,19 @@ abbrev pub AreOfShape : ℕ → List Aggregate → List (GroupRow Value) → Typ
 AreOfShape count gs groups =
     (count ≡ 0) × All (λ (group : GroupRow Value). group.keys ≡ []) groups
     ⊎ All (IsFull count gs) groups
+
+-- how far a total is from zero; NULL counts as zero
+abbrev pub distance : Option ℤ → ℕ
+distance None = 0
+distance (Some z) = unsigned_abs z
+
+-- the distances of the totals at an index of some groups, added up
+abbrev pub reach : (index : ℕ) → List (GroupRow Value) → ℕ
+reach index groups = sum_by (λ group. distance (slice_index_or group.totals index None)) groups
+
+-- whichever of the totals at an index are added up, the sum has 128 bits
+abbrev pub AreSmall : List (GroupRow Value) → Type 0
+AreSmall groups = (index : ℕ) → reach index groups < 2 ^ 127
 
 -- the merged groups of some plain groups, in order, each cut to some columns
 pub record IsMergedRows (s : Shape) (count : ℕ) (aggregates : List Aggregate) (sorts : List SortKey)

@@ -27,14 +27,14 @@ pub fn join_bounds(
     more_rows: u32,
     more: &[Interval; 58],
 ) -> [Interval; 58]
-    ensures { (place : ℕ) (any : Bounds) → place < 58
-        → range_of (slice_index_or result place any)
-        ≡ hull_of_rows rows more_rows (range_of (slice_index_or bounds.now place any))
-        (range_of (slice_index_or more.now place any)) }
+    ensures { (index : ℕ) (any : Bounds) → index < 58
+        → range_of (slice_index_or result index any)
+        ≡ hull_of_rows rows more_rows (range_of (slice_index_or bounds.now index any))
+        (range_of (slice_index_or more.now index any)) }
 {
     let mut joined = *bounds;
-    for place in 0..58 {
-        joined[place] = hull_of_parts(rows, bounds[place], more_rows, more[place]);
+    for index in 0..58 {
+        joined[index] = hull_of_parts(rows, bounds[index], more_rows, more[index]);
     }
     joined
 }

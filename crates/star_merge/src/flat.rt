@@ -62,9 +62,9 @@ fn flatten(
     requires texts { texts.old ≡ [] }
     ensures { IfOk result (AreFlattened cells.now numbers.new texts.new) }
 {
-    for place in 0..cells.len() {
-        let Some((number, text)) = flat_of(&cells[place]) else {
-            return Ok(place);
+    for index in 0..cells.len() {
+        let Some((number, text)) = flat_of(&cells[index]) else {
+            return Ok(index);
         };
         numbers.push(number)?;
         texts.push(text)?;
@@ -121,8 +121,8 @@ fn unflattened(
     ensures { IfOk result (λ cells. cells.items ≡ flat_cells numbers.now texts.now) }
 {
     let mut cells = Vec::with_capacity(alloc, numbers.len())?;
-    for place in 0..numbers.len() {
-        let cell = flat_shown(alloc, numbers.get(place), texts.get(place))?;
+    for index in 0..numbers.len() {
+        let cell = flat_shown(alloc, numbers.get(index), texts.get(index))?;
         cells.push(KeptCell::new(alloc, cell)?)?;
     }
     Ok(cells)

@@ -1,7 +1,6 @@
 // Groups that are merged, and how they compare.
 
-ghost use Rattle.std.specs.Prelude.{◌≡◌, None, IfOk, map, slice_index_or};
-ghost use Rattle.std.specs.{Cmp.Lexicographic.slice_cmp};
+ghost use Rattle.std.specs.{Prelude.{◌≡◌, None, IfOk, map, slice_index_or}, Cmp.Lexicographic.slice_cmp};
 ghost use Rattle.star_schema.specs.Order.{key_cmp, value_cmp};
 ghost use Rattle.star_program.specs.{CellViews.cell_viewed, RowCells.cell_of};
 ghost use Rattle.star_merge.specs.{Cells.key_of, Private.RowOrder.column_order, Private.RowOrder.row_order, Private.RowOrder.sort_order};
@@ -96,20 +95,20 @@ impl Group {
     }
 
     // The key at a position, or ALL past the last.
-    fn key(&self, place: usize) -> CellView<'_>
-        ensures { key_of (cell_viewed result) ≡ slice_index_or self.now.keys place None }
+    fn key(&self, index: usize) -> CellView<'_>
+        ensures { key_of (cell_viewed result) ≡ slice_index_or self.now.keys index None }
     {
-        match self.keys.get(place) {
+        match self.keys.get(index) {
             Some(key) => key.as_view(),
             None => CellView::All,
         }
     }
 
     // The aggregate at a position, or NULL past the last.
-    fn total(&self, place: usize) -> Option<i128>
-        ensures { result ≡ slice_index_or self.now.totals place None }
+    fn total(&self, index: usize) -> Option<i128>
+        ensures { result ≡ slice_index_or self.now.totals index None }
     {
-        match self.totals.get(place) {
+        match self.totals.get(index) {
             Some(total) => *total,
             None => None,
         }
@@ -127,8 +126,8 @@ impl Group {
         ensures { IfOk result (λ cell. cell ≡ cell_of self.now column) }
     {
         match column {
-            GroupColumn::Key(place) => key_cell(alloc, self.key(place as usize)),
-            GroupColumn::Aggregate(place) => Ok(total_cell(self.total(place as usize))),
+            GroupColumn::Key(index) => key_cell(alloc, self.key(index as usize)),
+            GroupColumn::Aggregate(index) => Ok(total_cell(self.total(index as usize))),
         }
     }
 }
@@ -161,8 +160,8 @@ fn compare_at(column: GroupColumn, a: &Group, b: &Group) -> Ordering
     ensures { result ≡ column_order column a.now b.now }
 {
     match column {
-        GroupColumn::Key(place) => compare_views(a.key(place as usize), b.key(place as usize)),
-        GroupColumn::Aggregate(place) => a.total(place as usize).cmp(&b.total(place as usize)),
+        GroupColumn::Key(index) => compare_views(a.key(index as usize), b.key(index as usize)),
+        GroupColumn::Aggregate(index) => a.total(index as usize).cmp(&b.total(index as usize)),
     }
 }
 

@@ -1,7 +1,6 @@
 // A group under each grouping of its keys.
 
-ghost use Rattle.std.specs.Prelude.{◌≡◌, ◌++◌, ◌∷◌, [], IfOk, OnOk, map};
-ghost use Rattle.std.specs.{List.flat_map, List.list_all, Option.is_none, Option.is_some, Option.option_to_list};
+ghost use Rattle.std.specs.{Prelude.{◌≡◌, ◌++◌, ◌∷◌, [], IfOk, OnOk, map}, List.{flat_map, list_all}, Option.{is_none, is_some, option_to_list}};
 ghost use Rattle.star_program.specs.CellViews.{cell_viewed};
 ghost use Rattle.star_merge.specs.{Cells.key_of, Private.Adding.masked};
 ghost use Rattle.star_schema.specs.Groups as spec;

@@ -1,10 +1,9 @@
 // Groups of partial reports, merged as they are read.
 
-ghost use Rattle.std.specs.Prelude.{◌≡◌, ◌++◌, ℕ, List, [], None, IfOk, OnOk, map, replicate};
-ghost use Rattle.std.specs.{List.flat_map};
+ghost use Rattle.std.specs.{Prelude.{◌≡◌, ◌++◌, ℕ, List, [], None, IfErr, IfOk, OnOk, map, replicate}, List.flat_map};
 ghost use Rattle.star_schema.specs.{Groups.GroupRow, Order.value_cmp, Tables.Value};
 ghost use Rattle.star_program.specs.RowCells.{cell_of};
-ghost use Rattle.star_merge.specs.{Cells.group_of, Cells.key_of, Cells.total_of, Merged.AreOfShape, Merged.IsMergedRows, Private.Adding.HasMerged, Private.Adding.empty_total};
+ghost use Rattle.star_merge.specs.{Cells.group_of, Cells.key_of, Cells.total_of, Merged.AreOfShape, Merged.AreSmall, Merged.IsMergedRows, Private.Adding.HasMerged, Private.Adding.empty_total, declared.fault.MergeFault.TheVariants.OutOfMemory};
 ghost use Rattle.star_merge_laws.specs.Regrouping.{all_added, added};
 
 use crate::fault::MergeFault;
@@ -37,7 +36,7 @@ fn hidden_keys(alloc: Global, count: usize) -> Result<Vec<KeptCell>, AllocError>
     ensures { IfOk result (λ keys. map key_of keys.items ≡ replicate count None) }
 {
     let mut keys = Vec::with_capacity(alloc, count)?;
-    for _place in 0..count {
+    for _index in 0..count {
         keys.push(KeptCell::new(alloc, Cell::All)?)?;
     }
     Ok(keys)
@@ -116,8 +115,7 @@ fn push_cells(
     items: &[GroupColumn],
     cells: &mut Vec<KeptCell>,
 ) -> Result<(), AllocError>
-    ensures { OnOk result (cells.new.items
-        ≡ cells.old.items ++ map (cell_of group.now) items.now) }
+    ensures { OnOk result (cells.new.items ≡ cells.old.items ++ map (cell_of group.now) items.now) }
 {
     for item in items {
         let cell = group.cell(alloc, *item)?;
@@ -144,8 +142,7 @@ fn all_cells(
 
 // The same, a row for each group.
 fn cell_rows(alloc: Global, groups: &[Group], items: &[GroupColumn]) -> Result<CellRows, AllocError>
-    ensures { IfOk result
-        (λ rows. rows ≡ map (λ group. map (cell_of group) items.now) groups.now) }
+    ensures { IfOk result (λ rows. rows ≡ map (λ group. map (cell_of group) items.now) groups.now) }
 {
     let cells = all_cells(alloc, groups, items)?;
     Ok(CellRows::from_cells(items.len(), groups.len(), cells))
@@ -174,9 +171,12 @@ impl Merging {
 
     // The same, with groups of equal keys merged if there are many.
     fn compacted(self, alloc: Global) -> Result<Merging, MergeFault>
-        ensures { (s : Shape) (count : ℕ) (gs : List Aggregate) (told : List (GroupRow Value))
+        ensures merged { (s : Shape) (count : ℕ) (gs : List Aggregate) (told : List (GroupRow Value))
             → HasMerged s count gs told self
             → IfOk result (HasMerged s count gs told) }
+        ensures small { (s : Shape) (count : ℕ) (gs : List Aggregate) (told : List (GroupRow Value))
+            → HasMerged s count gs told self → AreSmall told
+            → IfErr result (λ fault. fault ≡ OutOfMemory) }
     {
         let Merging {
             shape,
@@ -207,9 +207,12 @@ impl Merging {
 
     // Adds plain groups.
     fn with_rows(self, alloc: Global, rows: &FlatRows) -> Result<Merging, MergeFault>
-        ensures { (s : Shape) (count : ℕ) (gs : List Aggregate) (told : List (GroupRow Value))
+        ensures merged { (s : Shape) (count : ℕ) (gs : List Aggregate) (told : List (GroupRow Value))
             → HasMerged s count gs told self
             → IfOk result (HasMerged s count gs (told ++ map (group_of count) rows.now)) }
+        ensures small { (s : Shape) (count : ℕ) (gs : List Aggregate) (told : List (GroupRow Value))
+            → HasMerged s count gs told self → AreSmall (told ++ map (group_of count) rows.now)
+            → IfErr result (λ fault. fault ≡ OutOfMemory) }
     {
         let mut more = self;
         let rows = rows.unpacked(alloc)?;
@@ -224,9 +227,12 @@ impl Merging {
         sorts: &[SortKey],
         items: &[GroupColumn],
     ) -> Result<CellRows, MergeFault>
-        ensures { (s : Shape) (count : ℕ) (gs : List Aggregate) (told : List (GroupRow Value))
+        ensures merged { (s : Shape) (count : ℕ) (gs : List Aggregate) (told : List (GroupRow Value))
             → HasMerged s count gs told self → AreOfShape count gs told
             → IfOk result (IsMergedRows s count gs sorts.now items.now told) }
+        ensures small { (s : Shape) (count : ℕ) (gs : List Aggregate) (told : List (GroupRow Value))
+            → HasMerged s count gs told self → AreSmall told
+            → IfErr result (λ fault. fault ≡ OutOfMemory) }
     {
         let Merging {
             aggregates,
@@ -243,7 +249,7 @@ impl Merging {
 /// of a shape in the order of a report, cut to some columns.
 ///
 /// The first cells of each row are a group's keys, the others its aggregates. `Overflow` if a total
-/// leaves 128 bits.
+/// leaves 128 bits, which no total of small groups does.
 pub fn merge_rows(
     alloc: Global,
     shape: Shape,
@@ -253,10 +259,13 @@ pub fn merge_rows(
     items: &[GroupColumn],
     reports: &[&FlatRows],
 ) -> Result<CellRows, MergeFault>
-    ensures { (groups : List (GroupRow Value))
+    ensures merged { (groups : List (GroupRow Value))
         → groups ≡ flat_map (λ rows. map (group_of count) rows.now) reports.now
         → AreOfShape count aggregates.items groups
         → IfOk result (IsMergedRows shape count aggregates.items sorts.now items.now groups) }
+    ensures small { (groups : List (GroupRow Value))
+        → groups ≡ flat_map (λ rows. map (group_of count) rows.now) reports.now
+        → AreSmall groups → IfErr result (λ fault. fault ≡ OutOfMemory) }
 {
     let mut merging = Merging::new(alloc, shape, count, aggregates)?;
     for rows in reports {

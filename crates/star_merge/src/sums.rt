@@ -1,11 +1,9 @@
 // Groups with equal keys as one.
 
-ghost use Rattle.std.specs.Prelude.{◌≡◌, IfOk, IsPermutation, OnOk, reverse};
-ghost use Rattle.std.specs.{List.Sorted.IsSortedBy, Ordering.is_lt};
+ghost use Rattle.std.specs.{Prelude.{◌≡◌, ◌∷◌, IfErr, IfOk, IsPermutation, OnOk, reverse}, List.Sorted.IsSortedBy, Ordering.is_lt};
 ghost use Rattle.star_schema.specs.Order.{value_cmp};
 ghost use Rattle.star_merge_laws.specs.Merging.{merged_totals};
-ghost use Rattle.star_merge.specs.Private.Adding.{AreSums, alone, onto, over_nothing, together};
-ghost use Rattle.star_merge.specs.{Private.RowOrder.row_order};
+ghost use Rattle.star_merge.specs.{Private.Adding.{AddUpSmall, AreSmallByKeys, AreSums, ReachNoFarther, alone, onto, over_nothing, together}, Private.RowOrder.row_order, declared.fault.MergeFault.TheVariants.OutOfMemory};
 
 use crate::fault::{MergeFault, push};
 use crate::group::{Group, compare_groups};
@@ -31,8 +29,9 @@ fn merge_into(
     group: Group,
     more: &[Option<i128>],
 ) -> Result<Group, MergeFault>
-    ensures { IfOk result (λ merged. merged
+    ensures merged { IfOk result (λ merged. merged
         ≡ record { keys = group.keys; totals = merged_totals aggregates.now group.totals more.now }) }
+    ensures small { AddUpSmall group.totals more.now → IfErr result (λ fault. fault ≡ OutOfMemory) }
 {
     let totals = merge_totals(alloc, aggregates, group.totals(), more)?;
     Ok(group.with_totals(totals))
@@ -48,8 +47,10 @@ fn push_group(
     group: Group,
 ) -> Result<(), MergeFault>
     requires { nothing.now ≡ over_nothing aggregates.now }
-    ensures { OnOk result (reverse groups.new.items
+    ensures pushed { OnOk result (reverse groups.new.items
         ≡ onto value_cmp aggregates.now group (reverse groups.old.items)) }
+    ensures small { AreSmallByKeys (group ∷ reverse groups.old.items)
+        → IfErr result (λ fault. fault ≡ OutOfMemory) }
 {
     match groups.pop() {
         None => push(groups, merge_into(alloc, aggregates, group, nothing)?)?,
@@ -71,8 +72,9 @@ fn merge_neighbours(
     aggregates: &[Aggregate],
     groups: Vec<Group>,
 ) -> Result<Vec<Group>, MergeFault>
-    ensures { IfOk result
+    ensures merged { IfOk result
         (λ merged. reverse merged.items ≡ together value_cmp aggregates.now groups.items) }
+    ensures small { AreSmallByKeys groups.items → IfErr result (λ fault. fault ≡ OutOfMemory) }
 {
     let nothing = totals_over_none(alloc, aggregates)?;
     let mut rest = groups;
@@ -89,8 +91,9 @@ pub(crate) fn add_up(
     aggregates: &[Aggregate],
     groups: Vec<Group>,
 ) -> Result<Vec<Group>, MergeFault>
-    ensures { IfOk result
-        (λ sums. AreSums value_cmp aggregates.now groups.items sums.items) }
+    ensures sums { IfOk result (λ sums. AreSums value_cmp aggregates.now groups.items sums.items) }
+    ensures within { IfOk result (λ sums. ReachNoFarther sums.items groups.items) }
+    ensures small { AreSmallByKeys groups.items → IfErr result (λ fault. fault ≡ OutOfMemory) }
 {
     let mut sorted = groups;
     sort_groups(&mut sorted, &[])?;

@@ -1,10 +1,10 @@
 // Aggregates over some rows and over others, as those over both.
 
-ghost use Rattle.std.specs.Prelude.{◌≡◌, ◌++◌, [], false, IfOk, MatchOption, OnOk};
+ghost use Rattle.std.specs.Prelude.{◌≡◌, ◌++◌, ◌+◌, ◌<◌, ◌^◌, [], false, IfErr, IfOk, MatchOption, OnOk};
 ghost use Rattle.star_interval.specs.Range.{is_i128};
 ghost use Rattle.star_schema.specs.Groups.{aggregate};
 ghost use Rattle.star_merge_laws.specs.Merging.{both, merged, merged_totals};
-ghost use Rattle.star_merge.specs.Private.Adding.{over_nothing};
+ghost use Rattle.star_merge.specs.{Merged.distance, Private.Adding.AddUpSmall, Private.Adding.over_nothing, declared.fault.MergeFault.TheVariants.OutOfMemory};
 
 use crate::fault::{MergeFault, push};
 use star_schema::Aggregate;
@@ -29,7 +29,9 @@ fn merge_total(
     total: Option<i128>,
     more: Option<i128>,
 ) -> Result<Option<i128>, MergeFault>
-    ensures { IfOk result (λ both. both ≡ merged aggregate total more) }
+    ensures merged { IfOk result (λ both. both ≡ merged aggregate total more) }
+    ensures small { distance total + distance more < 2 ^ 127
+        → IfErr result (λ fault. fault ≡ OutOfMemory) }
 {
     match (total, more) {
         (None, more) => Ok(more),
@@ -48,8 +50,9 @@ fn push_merged(
     more: &[Option<i128>],
     merged: &mut Vec<Option<i128>>,
 ) -> Result<(), MergeFault>
-    ensures { OnOk result (merged.new.items
+    ensures merged { OnOk result (merged.new.items
         ≡ merged.old.items ++ merged_totals aggregates.now totals.now more.now) }
+    ensures small { AddUpSmall totals.now more.now → IfErr result (λ fault. fault ≡ OutOfMemory) }
 {
     match (
         aggregates.split_first(),
@@ -71,8 +74,9 @@ pub(crate) fn merge_totals(
     totals: &[Option<i128>],
     more: &[Option<i128>],
 ) -> Result<Vec<Option<i128>>, MergeFault>
-    ensures { IfOk result
+    ensures merged { IfOk result
         (λ merged. merged.items ≡ merged_totals aggregates.now totals.now more.now) }
+    ensures small { AddUpSmall totals.now more.now → IfErr result (λ fault. fault ≡ OutOfMemory) }
 {
     let mut merged = Vec::with_capacity(alloc, aggregates.len())?;
     push_merged(aggregates, totals, more, &mut merged)?;

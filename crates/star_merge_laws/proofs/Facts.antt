@@ -1,7 +1,6 @@
 -- The facts of two parts together are those of the whole.
 use Rattle.std.proofs.Common.{◌≡◌, ◌⊎◌, ℕ, ℤ, ◌+◌, List, [], ◌∷◌, ◌++◌, length, map, refl, sym, subst, ap, arith, ⊎_elim}
-use Rattle.star_merge_laws.proofs.Common.{All-append, All-contains, All-from_recursion, All-head, All-tail, All-weaker, AreFactsOf, ColumnId, Contains, Contains-append_left, Contains-append_right, Contains-permutation, Database, Facts, HaveFacts, IsPermutation, IsPermutation-map, IsPermutation-sym, Range, RowsWithFacts, TableId, Value, all_facts, append-nil, clamps, contains_cases, contains_none, flat_map, fold-int_max_reached, fold-int_min_reached, greatest, greatest_above, greatest_is, greatest_there, hull, hull_of_rows, int_max, int_min, ints, joined_facts, least, least_below, least_is, least_there, length-append, length_permutation, numbers_at, numbers_of, of_each, rows_in, with_lineorder, ◌≤ℤ◌}
-use Rattle.star_merge_laws.proofs.LoadableParts.{numbers_joined}
+use Rattle.star_merge_laws.proofs.{Common.{All-append, All-contains, All-from_recursion, All-head, All-tail, All-weaker, AreFactsOf, ColumnId, Contains, Contains-append_left, Contains-append_right, Contains-permutation, Database, Facts, HaveFacts, IsPermutation, IsPermutation-map, IsPermutation-sym, Range, RowsWithFacts, TableId, Value, all_facts, append-nil, clamps, contains_cases, contains_none, flat_map, fold-int_max_reached, fold-int_min_reached, greatest, greatest_above, greatest_is, greatest_there, hull, hull_of_rows, int_max, int_min, ints, joined_facts, least, least_below, least_is, least_there, length-append, length_permutation, numbers_at, numbers_of, of_each, rows_in, with_lineorder, ◌≤ℤ◌}, LoadableParts.numbers_joined}
 
 min_is_one : (x y : ℤ) → (int_min x y ≡ x) ⊎ (int_min x y ≡ y)
 min_is_one x y = grind (arith, ints, ⊎_elim, contains_none, contains_cases, fold-int_min_reached)
@@ -83,7 +82,8 @@ module _ (database : Database) where
   IsTold part = AreFactsOf (with_lineorder database part.rows) part.facts
 
   -- the facts of all parts
-  pub facts_of_all : (part : RowsWithFacts) (parts : List RowsWithFacts) → HaveFacts database (part ∷ parts)
+  pub facts_of_all : (part : RowsWithFacts) (parts : List RowsWithFacts)
+      → HaveFacts database (part ∷ parts)
       → AreFactsOf (with_lineorder database (flat_map (λ p. p.rows) (part ∷ parts)))
       (all_facts part.facts (map (λ p. p.facts) parts))
   facts_of_all part [] all =

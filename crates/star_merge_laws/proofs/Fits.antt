@@ -1,7 +1,6 @@
 -- A plan that fits the rows of lineorder fits those of a part that has a row.
 use Rattle.std.proofs.Common.{◌≡◌, ℕ, ℤ, ◌≤◌, Bool, true, ◌&&◌, List, [], ◌∷◌, ◌++◌, length, ◌≤ℤ◌, ◌+ℤ◌, ◌-ℤ◌, ◌*ℤ◌, refl, subst, arith}
-use Rattle.star_merge_laws.proofs.Common.{All-head, ColumnId, Database, Expression, Fits, IsOrdered, IsWithin, Measure, Plan, Range, Row, add, and_from, and_parts, bounds_in, clamps, column, constant, corner_range, count, differences_within, expression_range, fits_held, fits_i64, fits_i64_fits, fold, greatest, greatest_above, holds_high, holds_low, holds_within, hull_of_rows, ints, least, least_below, length-append, list_all, measure_fits, mul, nodes_fit, numbers_of, products_within, sub, sums_within, table_of, tables_with, within_hull_left, within_hull_right}
-use Rattle.star_merge_laws.proofs.Facts.{in_table}
+use Rattle.star_merge_laws.proofs.{Common.{All-head, ColumnId, Database, Expression, Fits, IsOrdered, IsWithin, Measure, Plan, Range, Row, add, and_from, and_parts, bounds_in, clamps, column, constant, corner_range, count, differences_within, expression_range, fits_held, fits_i64, fits_i64_fits, fold, greatest, greatest_above, holds_high, holds_low, holds_within, hull_of_rows, ints, least, least_below, length-append, list_all, measure_fits, mul, nodes_fit, numbers_of, products_within, sub, sums_within, table_of, tables_with, within_hull_left, within_hull_right}, Facts.in_table}
 
 corners_ordered : (op : ℤ → ℤ → ℤ) (a b : Range) → IsOrdered (corner_range op a b)
 corners_ordered op a b = grind (arith, ints, clamps)
@@ -17,9 +16,12 @@ module _ (small great : ColumnId → Range) (ordered : (c : ColumnId) → IsOrde
   range_ordered : (e : Expression ColumnId) → IsOrdered (expression_range small e)
   range_ordered (column c) = ordered c
   range_ordered (constant z) = omega (arith, ints)
-  range_ordered (add a b) = corners_ordered ◌+ℤ◌ (expression_range small a) (expression_range small b)
-  range_ordered (sub a b) = corners_ordered ◌-ℤ◌ (expression_range small a) (expression_range small b)
-  range_ordered (mul a b) = corners_ordered ◌*ℤ◌ (expression_range small a) (expression_range small b)
+  range_ordered (add a b) =
+      corners_ordered ◌+ℤ◌ (expression_range small a) (expression_range small b)
+  range_ordered (sub a b) =
+      corners_ordered ◌-ℤ◌ (expression_range small a) (expression_range small b)
+  range_ordered (mul a b) =
+      corners_ordered ◌*ℤ◌ (expression_range small a) (expression_range small b)
 
   range_inside : (e : Expression ColumnId)
       → IsWithin (expression_range small e) (expression_range great e)

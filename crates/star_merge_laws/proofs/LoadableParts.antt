@@ -1,7 +1,6 @@
 -- Parts whose keys lie apart can be loaded together.
-use Rattle.std.proofs.Common.{◌≡◌, ◌≢◌, ◌∙◌, ℕ, ℤ, suc, ◌+◌, ◌≤◌, true, List, [], ◌∷◌, ◌++◌, Option, Some, None, AllPairs, length, get_or, map, refl, sym, subst, ap, arith, ⊎_elim, true≢false}
+use Rattle.std.proofs.{Common.{◌≡◌, ◌≢◌, ◌∙◌, ℕ, ℤ, suc, ◌+◌, ◌≤◌, true, List, [], ◌∷◌, ◌++◌, Option, Some, None, AllPairs, length, get_or, map, refl, sym, subst, ap, arith, ⊎_elim, true≢false}, lemmas.Int.ints}
 use Rattle.star_merge_laws.proofs.Common.{All, All-append, All-cons, All-head, All-nil, All-tail, AllPairs-cons, AreDisjoint, AreWithin, ColumnId, Contains, Customer, Database, Date, Equal, Greater, HasDistinctKeys, IsLoadable, IsLoadablePart, IsRecordOf, IsSound, IsTable, IsTotalOrder, Less, Lineorder, LineorderPart, Ordering, Part, RefersTo, Span, Supplier, TableId, TableTexts, Value, alike_right, append-nil, are_disjoint, column_of, database_of, flat_map-append, foreign_key, int_cmp_total, is_le, is_lt, key_list_cmp, key_numbers, key_of, keys_of, length-append, lists_total, map-append, numbers_at, numbers_of, or_cases, records_in, records_of, references, row_of, rows_in, rows_of, table_of, tied_itself, whole_text, with_lineorder, with_lineorder_text}
-use Rattle.std.proofs.lemmas.Int.{ints}
 
 -- ---- lists
 
@@ -15,7 +14,8 @@ module _ {X : Type 0} (R : X → X → Type 0) where
       (λ k d within. first 0 (suc k) d (omega arith) (omega (arith, within)))
       (All-head (λ z. All (R z) ys) x xs across))
       (pairs_joined xs ys
-      (λ i j d before within. first (suc i) (suc j) d (omega (arith, before)) (omega (arith, within)))
+      (λ i j d before within.
+      first (suc i) (suc j) d (omega (arith, before)) (omega (arith, within)))
       second (All-tail (λ z. All (R z) ys) x xs across))
 
   pub all_first : (P : X → Type 0) (xs ys : List X) → All P (xs ++ ys) → All P xs
@@ -55,7 +55,8 @@ module _ {K : Type 0} (R : K → K → Ordering) (o : IsTotalOrder R) where
 
   not_itself : (a b : K) → R a b ≡ Less → a ≢ b
   not_itself a b less same =
-      true≢false (sym (ap is_lt less) ∙ ap (λ k. is_lt (R a k)) (sym same) ∙ ap is_lt (tied_itself o a))
+      true≢false (sym (ap is_lt less) ∙ ap (λ k. is_lt (R a k)) (sym same)
+      ∙ ap is_lt (tied_itself o a))
 
 pub is_less : (r : Ordering) → is_lt r ≡ true → r ≡ Less
 is_less Less h = refl
@@ -179,7 +180,8 @@ module _ (database : Database) where
           → All (λ n. Contains (keys_of t (rows_in database t)) (n ∷ []))
           (numbers_of c xs ++ numbers_of c ys)
       found_are c t e =
-          subst (All (λ n. Contains (keys_of t (rows_in database t)) (n ∷ []))) (numbers_joined c xs ys)
+          subst (All (λ n. Contains (keys_of t (rows_in database t)) (n ∷ [])))
+          (numbers_joined c xs ys)
           (subst (Found c t) (are_both (xs ++ ys) c t e) (whole.found c t e))
 
       distinct_first : (t : TableId) → HasDistinctKeys t (rows_in (with_lineorder database xs) t)
@@ -314,7 +316,8 @@ module _ (most : ℕ) (texts : TableTexts) where
       tables_first Part = whole.tables Part
       tables_first Lineorder = (
         omega (arith, sum, (whole.tables Lineorder).0),
-        all_first (λ x y. Unit {0}) (IsRecordOf Lineorder) (records_in xs) (records_in ys) records_are,
+        all_first (λ x y. Unit {0}) (IsRecordOf Lineorder) (records_in xs)
+            (records_in ys) records_are,
       )
 
       tables_second : (t : TableId) → IsTable t most (with_lineorder_text texts ys t)
@@ -324,7 +327,8 @@ module _ (most : ℕ) (texts : TableTexts) where
       tables_second Part = whole.tables Part
       tables_second Lineorder = (
         omega (arith, sum, (whole.tables Lineorder).0),
-        all_second (λ x y. Unit {0}) (IsRecordOf Lineorder) (records_in xs) (records_in ys) records_are,
+        all_second (λ x y. Unit {0}) (IsRecordOf Lineorder) (records_in xs)
+            (records_in ys) records_are,
       )
 
       sound_whole : IsSound

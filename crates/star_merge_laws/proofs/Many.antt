@@ -6,8 +6,7 @@ use Rattle.star_reader.specs.declared.fault.ReadFault.TheVariants as fault
 -- ---- a record of a table has no fault, whatever its number (as in star_reader's proofs, where it
 -- isn't exported)
 
-cells_fine : (at_row from : ℕ) (ks : List Kind) (cells : List (List ℕ))
-    → are_cells ks cells ≡ true
+cells_fine : (at_row from : ℕ) (ks : List Kind) (cells : List (List ℕ)) → are_cells ks cells ≡ true
     → (length cells ≡ length ks) × (cells_fault at_row from ks cells ≡ None)
 unfolding first_answer
 cells_fine at_row from [] [] e = (refl, refl)
@@ -55,7 +54,8 @@ module _ (t : TableId) (most : ℕ) where
 
   -- a piece of text that begins with no mark, and all records of which are the table's
   abbrev Fine : List ℕ → Type 0
-  Fine piece = (starts_with nat_eq piece byte_order_mark ≡ false) × All (IsRecordOf t) (records_of piece)
+  Fine piece = (starts_with nat_eq piece byte_order_mark ≡ false)
+      × All (IsRecordOf t) (records_of piece)
 
   part_is : (from : ℕ) (piece : List ℕ) → starts_with nat_eq piece byte_order_mark ≡ false
       → part_fault t most from piece ≡ records_fault t most from (records_of piece)
@@ -110,7 +110,8 @@ both_fine most [] ys a b = b
 both_fine most (x ∷ xs) ys a b = (a.0, both_fine most xs ys a.1 b)
 
 whole_fine : (most : ℕ) (texts : TableTexts) (parts : List LineorderPart)
-    → All (IsLoadablePart most texts) parts → AllByRecursion (Fine Lineorder most) (whole_text parts)
+    → All (IsLoadablePart most texts) parts
+    → AllByRecursion (Fine Lineorder most) (whole_text parts)
 whole_fine most texts [] all = tt
 whole_fine most texts (part ∷ parts) all =
     both_fine most part.text (whole_text parts)

@@ -1,10 +1,6 @@
 -- The answer that is made of partials is the query's answer over all their rows.
 use Rattle.std.proofs.Common.{◌≡◌, ◌∙◌, ◌↔◌, ℕ, ◌+◌, List, [], ◌∷◌, ◌++◌, map, refl, sym, subst, ap, arith}
-use Rattle.star_merge_laws.proofs.Common.{Aggregate, All, All-cons, All-head, All-nil, All-tail, AreFactsOf, AreGroups, AreMerged, AreShards, Cell, Database, Entry, GroupRow, IsAnswer, IsMergedAnswer, IsPart, IsPartial, IsPermutation, IsPermutation-append, IsPermutation-map, IsPermutation-refl, IsPermutation-sym, IsPermutation-trans, IsPlainAnswer, IsResolved, IsWellNamed, Joined, Partial, Plain, Plan, Row, Shard, Tree, Value, aggregate_of, all_groups, all_of, all_rows, count_same, entries_reordered, entry_of, flat_map, functions_same, groups_of_partials, groups_reordered, kept_sound, length, length-flat_map, length_permutation, map-append, measures_of, no_fault, plan_rows, query_entry, selected, selected_reordered, shard_partials, shard_rows, sum_by, sum_by-cons, tables_with, value_cmp, with_lineorder}
-use Rattle.star_merge_laws.specs.Merging.{Part}
-use Rattle.star_merge_laws.proofs.Merging.{merged_groups}
-use Rattle.star_merge_laws.proofs.Values.{once_in_order, value_decides}
-use Rattle.star_merge_laws.proofs.Rows.{selected_of_parts}
+use Rattle.star_merge_laws.{proofs.Common.{Aggregate, All, All-cons, All-head, All-nil, All-tail, AreFactsOf, AreGroups, AreMerged, AreShards, Cell, Database, Entry, GroupRow, IsAnswer, IsMergedAnswer, IsPart, IsPartial, IsPermutation, IsPermutation-append, IsPermutation-map, IsPermutation-refl, IsPermutation-sym, IsPermutation-trans, IsPlainAnswer, IsResolved, IsWellNamed, Joined, Partial, Plain, Plan, Row, Shard, Tree, Value, aggregate_of, all_groups, all_of, all_rows, count_same, entries_reordered, entry_of, flat_map, functions_same, groups_of_partials, groups_reordered, kept_sound, length, length-flat_map, length_permutation, map-append, measures_of, no_fault, plan_rows, query_entry, selected, selected_reordered, shard_partials, shard_rows, sum_by, sum_by-cons, tables_with, value_cmp, with_lineorder}, specs.Merging.Part, proofs.Merging.merged_groups, proofs.Values.{once_in_order, value_decides}, proofs.Rows.selected_of_parts}
 
 module _ {X Y : Type 0} where
   each_reordered : (f g : X → List Y) → ((x : X) → IsPermutation (f x) (g x)) → (xs : List X)
@@ -55,7 +51,8 @@ module _ (database : Database) (q : Tree) (p : Plan) (named : IsWellNamed q)
   updates_are (shard ∷ shards) all =
       sum_by-cons (λ partial. partial.updates) shard.partial (shard_partials shards)
       ∙ (λ i. (All-head (λ s. IsPartial database q s.rows s.partial) shard shards all).updates i
-      + updates_are shards (All-tail (λ s. IsPartial database q s.rows s.partial) shard shards all) i)
+      + updates_are shards (All-tail (λ s.
+      IsPartial database q s.rows s.partial) shard shards all) i)
       ∙ sym (sum_by-cons (λ part. length (selected_of part)) shard.rows (shard_rows shards))
 
   -- how many rows the query selects of all

@@ -1,8 +1,6 @@
 -- What is told of a merge is what is told of the whole.
 use Rattle.std.proofs.Common.{◌≡◌, ◌∙◌, ℕ, ◌+◌, List, [], ◌∷◌, All, length, map, refl, sym, subst, ap}
-use Rattle.star_merge_laws.proofs.Common.{All-cons, All-head, All-nil, All-tail, AreShards, Database, IsMergedAnswer, IsMergedOutput, IsPartial, IsReport, IsResolved, IsSoundPlan, IsTask, IsWellNamed, Lineorder, Output, Plan, Row, Shard, Task, Tree, all_of, length-append, lookups_of, plain_plan, rows_of_partials, selected, shard_partials, shard_rows, sum_by, sum_by-cons, tables_with, task_partials, task_rows, turn_lookups, with_lineorder}
-use Rattle.star_merge_laws.proofs.MergedAnswers.{merged_answer, updates_of_all}
-use Rattle.star_merge_laws.proofs.Rows.{counted_of_parts}
+use Rattle.star_merge_laws.proofs.{Common.{All-cons, All-head, All-nil, All-tail, AreShards, Database, IsMergedAnswer, IsMergedOutput, IsPartial, IsReport, IsResolved, IsSoundPlan, IsTask, IsWellNamed, Lineorder, Output, Plan, Row, Shard, Task, Tree, all_of, length-append, lookups_of, plain_plan, rows_of_partials, selected, shard_partials, shard_rows, sum_by, sum_by-cons, tables_with, task_partials, task_rows, turn_lookups, with_lineorder}, MergedAnswers.{merged_answer, updates_of_all}, Rows.counted_of_parts}
 
 -- ---- lookups
 
@@ -80,7 +78,8 @@ module _ (database : Database) (q : Tree) (p : Plan) where
           ∙ updates_of_all database q p named resolved (map shard_of tasks) (shards_are tasks all)
           ∙ ap (λ parts. length (selected (tables_with database (all_of parts)) q)) (rows_are tasks)
 
-      pub told_report : IsReport (with_lineorder database (all_of (task_rows tasks))) text told.report
+      pub told_report : IsReport (with_lineorder database
+          (all_of (task_rows tasks))) text told.report
       told_report =
           subst (λ parts. IsReport (with_lineorder database (all_of parts)) text told.report)
           (rows_are tasks)

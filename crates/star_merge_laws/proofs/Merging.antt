@@ -1,8 +1,6 @@
 -- The plain groups of parts make up the groups of all their rows.
 use Rattle.std.proofs.Common.{◌≡◌, ◌≢◌, ◌∙◌, ◌↔◌, ℕ, zero, suc, Bool, true, false, ◌&&◌, ◌||◌, List, [], ◌∷◌, ◌++◌, Option, Some, None, AllPairs, map, cond, refl, sym, subst, ap, arith, inl, inr, ⊎_elim, true≢false}
-use Rattle.star_merge_laws.proofs.Common.{Aggregate, All, All-head, All-tail, AllByRecursion, AreGroups, AreMerged, Contains, Contains-append_cases, Contains-append_left, Contains-append_right, Decides, Entry, GroupRow, IsGroup, IsMasked, IsPart, IsTrue, Ordering, Plain, Shape, all_groups, all_keys, all_rows, and_from, and_parts, as_row, belongs, contains_mapped, contains_none, filter, filter-append, filter_agree, flat_map, from_contains_map, is_eq, is_grouping, list_any, list_any-from_Any, members, merged_totals, of_each, option_to_list, recursion_from_All, replicate, shown_masked, total_over, totals_of}
-use Rattle.star_merge_laws.specs.Merging.{Part}
-use Rattle.star_merge_laws.proofs.Totals.{totals_either}
+use Rattle.star_merge_laws.{proofs.Common.{Aggregate, All, All-head, All-tail, AllByRecursion, AreGroups, AreMerged, Contains, Contains-append_cases, Contains-append_left, Contains-append_right, Decides, Entry, GroupRow, IsGroup, IsMasked, IsPart, IsTrue, Ordering, Plain, Shape, all_groups, all_keys, all_rows, and_from, and_parts, as_row, belongs, contains_mapped, contains_none, filter, filter-append, filter_agree, flat_map, from_contains_map, is_eq, is_grouping, list_any, list_any-from_Any, members, merged_totals, of_each, option_to_list, recursion_from_All, replicate, shown_masked, total_over, totals_of}, specs.Merging.Part, proofs.Totals.totals_either}
 
 -- ---- keys that are all shown
 
@@ -67,7 +65,8 @@ module _ {K : Type 0} (cmp : K → K → Ordering)
 
   abbrev AreApart : List (GroupRow K) → Type 0
   AreApart [] = Unit {0}
-  AreApart (group ∷ groups) = AllByRecursion (λ other. group.keys ≢ other.keys) groups × AreApart groups
+  AreApart (group ∷ groups) = AllByRecursion (λ other. group.keys ≢ other.keys) groups
+      × AreApart groups
 
   -- a row of a group is of no other
   none_other : (group : GroupRow K) (groups : List (GroupRow K)) (row : Entry K)
@@ -94,9 +93,9 @@ module _ {K : Type 0} (cmp : K → K → Ordering)
 
     summed : (groups : List (GroupRow K)) → ArePlain groups → AreApart groups
         → AllByRecursion (λ group. group.totals ≡ totals_of gs (members cmp group.keys rows)) groups
-        → total_over gs (kept groups ++ rest)
-        ≡ totals_of gs (filter (of_kept groups) rows ++ more)
-    summed [] plain apart each = told ∙ ap (λ none. totals_of gs (none ++ more)) (sym (none_kept rows))
+        → total_over gs (kept groups ++ rest) ≡ totals_of gs (filter (of_kept groups) rows ++ more)
+    summed [] plain apart each = told
+        ∙ ap (λ none. totals_of gs (none ++ more)) (sym (none_kept rows))
     summed (group ∷ groups) plain apart each =
         by (passes (shown group.keys)) refl (summed groups plain.1 apart.1 each.1)
       where
@@ -173,7 +172,8 @@ module _ {K : Type 0} (cmp : K → K → Ordering)
     recursion_from_All (λ other. group.keys ≢ other.keys) groups
         (λ k d within. h 0 (suc k) d (omega arith) (omega (arith, within))),
     apart_of groups
-        (λ i j d before within. h (suc i) (suc j) d (omega (arith, before)) (omega (arith, within))),
+        (λ i j d before within.
+        h (suc i) (suc j) d (omega (arith, before)) (omega (arith, within))),
   )
 
   module _ (count : ℕ) (gs : List Aggregate) where
@@ -198,7 +198,8 @@ module _ {K : Type 0} (cmp : K → K → Ordering)
         )
 
     -- the totals of the groups that pass are those of the rows that do
-    summed_parts : (passes : List K → Bool) (parts : List (Part K)) → All (IsPart cmp count gs) parts
+    summed_parts : (passes : List K → Bool) (parts : List (Part K))
+        → All (IsPart cmp count gs) parts
         → total_over gs (filter (λ group. passes (shown group.keys)) (all_groups parts))
         ≡ totals_of gs (filter (λ row. passes row.keys) (all_rows parts))
     summed_parts passes [] all = refl
@@ -219,14 +220,17 @@ module _ {K : Type 0} (cmp : K → K → Ordering)
 
     group_of_row : (parts : List (Part K)) → All (IsPart cmp count gs) parts → (row : Entry K)
         → Contains (all_rows parts) row
-        → (group : GroupRow K) × Contains (all_groups parts) group × (group.keys ≡ map Some row.keys)
+        → (group : GroupRow K) × Contains (all_groups parts) group
+        × (group.keys ≡ map Some row.keys)
     group_of_row [] all row c = absurd (contains_none row c)
     group_of_row (part ∷ parts) all row c =
         ⊎_elim {C = (group : GroupRow K) × Contains (all_groups (part ∷ parts)) group
         × (group.keys ≡ map Some row.keys)}
-        (λ here. let own = own_group part (All-head (IsPart cmp count gs) part parts all) row here in
+        (λ here. let own = own_group part (All-head
+        (IsPart cmp count gs) part parts all) row here in
         (own.0, Contains-append_left part.groups (all_groups parts) own.0 own.1, own.2))
-        (λ later. let own = group_of_row parts (All-tail (IsPart cmp count gs) part parts all) row later
+        (λ later. let own = group_of_row parts (All-tail
+        (IsPart cmp count gs) part parts all) row later
         in (own.0, Contains-append_right part.groups (all_groups parts) own.0 own.1, own.2))
         (Contains-append_cases part.rows (all_rows parts) row c)
 
@@ -236,9 +240,8 @@ module _ {K : Type 0} (cmp : K → K → Ordering)
     more_rows s xs ys keys more (plain, inl row) = (plain, inl (row.0, more row.0 row.1, row.2))
     more_rows s xs ys keys more (plain, inr none) = (plain, inr none)
 
-    rows_of_group : (parts : List (Part K)) → All (IsPart cmp count gs) parts
-        → (group : GroupRow K) → Contains (all_groups parts) group
-        → IsGroup Plain count (all_rows parts) group.keys
+    rows_of_group : (parts : List (Part K)) → All (IsPart cmp count gs) parts → (group : GroupRow K)
+        → Contains (all_groups parts) group → IsGroup Plain count (all_rows parts) group.keys
     rows_of_group [] all group c = absurd (contains_none group c)
     rows_of_group (part ∷ parts) all group c =
         ⊎_elim {C = IsGroup Plain count (all_rows (part ∷ parts)) group.keys}

@@ -1,8 +1,7 @@
 -- What facts tell of a query, totals in any order, and partials by plans.
 use Rattle.std.proofs.Common.{◌≡◌, ◌∙◌, ◌↔◌, ℕ, ◌+◌, ◌≤◌, suc, true, List, [], ◌∷◌, ◌++◌, Option, inl, inr, length, map, refl, sym, subst, ap, arith}
-use Rattle.star_merge_laws.proofs.Common.{Aggregate, AreFactsOf, AreMerged, Cell, Contains-permutation, Database, Facts, FitsFacts, FitsTables, GroupColumn, GroupRow, IsGroup, IsMergedAnswer, IsPermutation, IsPermutation-append, IsPermutation-append_comm, IsPermutation-map, IsPermutation-refl, IsPermutation-sym, IsPermutation-trans, IsSoundPlan, Partial, Plan, Row, Shape, Tree, Value, aggregate_of, and_from, and_parts, append_assoc, as_row, belongs, bounds_in, column_at, columns_at, filter_reordered, groups_of_partials, is_group_column, length-append, list_all, list_all-append, lt-ltb, ltb-true, measure_fits, measures_of, merged, merged_totals, nat_lt, only, option_map_or, parts_of, plain_plan, pos, reordered, tables_with, total_over, value_cmp, with_lineorder, ℤ}
+use Rattle.star_merge_laws.proofs.{Common.{Aggregate, AreFactsOf, AreMerged, Cell, Contains-permutation, Database, Facts, FitsFacts, FitsTables, GroupColumn, GroupRow, IsGroup, IsMergedAnswer, IsPermutation, IsPermutation-append, IsPermutation-append_comm, IsPermutation-map, IsPermutation-refl, IsPermutation-sym, IsPermutation-trans, IsSoundPlan, Partial, Plan, Row, Shape, Tree, Value, aggregate_of, and_from, and_parts, append_assoc, as_row, belongs, bounds_in, column_at, columns_at, filter_reordered, groups_of_partials, is_group_column, length-append, list_all, list_all-append, lt-ltb, ltb-true, measure_fits, measures_of, merged, merged_totals, nat_lt, only, option_map_or, parts_of, plain_plan, pos, reordered, tables_with, total_over, value_cmp, with_lineorder, ℤ}, Totals.{merged_assoc, merged_comm}}
 use Rattle.star_schema.specs.declared.group.GroupColumn.TheVariants as group
-use Rattle.star_merge_laws.proofs.Totals.{merged_assoc, merged_comm}
 
 -- ---- whether a query fits hangs on the facts alone
 
@@ -11,10 +10,15 @@ pub fits_by_facts : (database : Database) (rows : List Row) (most : ℕ) (facts 
     → FitsFacts most facts q ↔ FitsTables most (tables_with database rows) q
 fits_by_facts database rows most facts q are =
     let bounds : facts.bounds ≡ bounds_in (tables_with database rows) = λ i c. are.bounds c i in
-    let nodes = ap (λ (b : _). list_all (measure_fits (λ n. option_map_or b (column_at n) (only (pos 0))))
+    let nodes = ap (λ (b : _). list_all (measure_fits
+    (λ n. option_map_or b (column_at n) (only (pos 0))))
     (measures_of q.items)) bounds in (
       λ h. record { visits = subst (λ n. n ≤ most) are.rows h.visits; nodes = sym nodes ∙ h.nodes },
-      λ h. record { visits = subst (λ n. n ≤ most) (sym are.rows) h.visits; nodes = nodes ∙ h.nodes },
+      λ h. record {
+        visits = subst (λ n. n ≤ most) (sym are.rows) h.visits;
+        nodes = nodes
+            ∙ h.nodes;
+      },
     )
 
 -- ---- totals together, in any order of the groups
@@ -44,24 +48,24 @@ total_reordered gs =
 -- ---- the plain plan of a sound plan is sound
 
 module _ {X : Type 0} where
-  count_columns : (column : ℕ → GroupColumn) (place : ℕ) (xs : List X)
-      → length (columns_at column place xs) ≡ length xs
-  count_columns column place [] = refl
-  count_columns column place (x ∷ xs) = ap suc (count_columns column (place + 1) xs)
+  count_columns : (column : ℕ → GroupColumn) (index : ℕ) (xs : List X)
+      → length (columns_at column index xs) ≡ length xs
+  count_columns column index [] = refl
+  count_columns column index (x ∷ xs) = ap suc (count_columns column (index + 1) xs)
 
-  keys_there : (keys aggregates place : ℕ) (xs : List X) → place + length xs ≤ keys
-      → list_all (is_group_column keys aggregates) (columns_at group.Key place xs) ≡ true
-  keys_there keys aggregates place [] h = refl
-  keys_there keys aggregates place (x ∷ xs) h =
-      and_from (nat_lt place keys) _ (lt-ltb place keys (omega (arith, h)))
-      (keys_there keys aggregates (place + 1) xs (omega (arith, h)))
+  keys_there : (keys aggregates index : ℕ) (xs : List X) → index + length xs ≤ keys
+      → list_all (is_group_column keys aggregates) (columns_at group.Key index xs) ≡ true
+  keys_there keys aggregates index [] h = refl
+  keys_there keys aggregates index (x ∷ xs) h =
+      and_from (nat_lt index keys) _ (lt-ltb index keys (omega (arith, h)))
+      (keys_there keys aggregates (index + 1) xs (omega (arith, h)))
 
-  aggregates_there : (keys aggregates place : ℕ) (xs : List X) → place + length xs ≤ aggregates
-      → list_all (is_group_column keys aggregates) (columns_at group.Aggregate place xs) ≡ true
-  aggregates_there keys aggregates place [] h = refl
-  aggregates_there keys aggregates place (x ∷ xs) h =
-      and_from (nat_lt place aggregates) _ (lt-ltb place aggregates (omega (arith, h)))
-      (aggregates_there keys aggregates (place + 1) xs (omega (arith, h)))
+  aggregates_there : (keys aggregates index : ℕ) (xs : List X) → index + length xs ≤ aggregates
+      → list_all (is_group_column keys aggregates) (columns_at group.Aggregate index xs) ≡ true
+  aggregates_there keys aggregates index [] h = refl
+  aggregates_there keys aggregates index (x ∷ xs) h =
+      and_from (nat_lt index aggregates) _ (lt-ltb index aggregates (omega (arith, h)))
+      (aggregates_there keys aggregates (index + 1) xs (omega (arith, h)))
 
 some_column : (k a : ℕ) (columns : List GroupColumn) → 1 ≤ length columns
     → list_all (is_group_column k a) columns ≡ true → 1 ≤ k + a
@@ -100,9 +104,8 @@ plain_sound p s =
 -- ---- told groups in any order
 
 module _ (s : Shape) (count : ℕ) (gs : List Aggregate) where
-  group_moved : (xs ys : List (GroupRow Value)) → IsPermutation xs ys
-      → (keys : List (Option Value)) → IsGroup s count (map as_row xs) keys
-      → IsGroup s count (map as_row ys) keys
+  group_moved : (xs ys : List (GroupRow Value)) → IsPermutation xs ys → (keys : List (Option Value))
+      → IsGroup s count (map as_row xs) keys → IsGroup s count (map as_row ys) keys
   group_moved xs ys h keys (is, inl row) = (
     is,
     inl (
@@ -149,7 +152,8 @@ told_reordered : (xs ys : List Partial) → IsPermutation xs ys
 told_reordered =
     reordered (λ xs ys. IsPermutation (groups_of_partials xs) (groups_of_partials ys))
     (λ xs. IsPermutation-refl (groups_of_partials xs))
-    (λ xs ys zs a b. IsPermutation-trans (groups_of_partials xs) (groups_of_partials ys) (groups_of_partials zs) a b)
+    (λ xs ys zs a b. IsPermutation-trans (groups_of_partials xs) (groups_of_partials ys)
+    (groups_of_partials zs) a b)
     told_under told_turned
 
 -- what is made of partials doesn't hang on their order
@@ -160,7 +164,8 @@ answer_moved q xs ys names rows h a = record {
   headed = a.headed;
   groups = a.groups;
   merged = merged_moved q.grouping.shape (length q.grouping.columns)
-      (map aggregate_of (measures_of q.items)) (groups_of_partials xs) (groups_of_partials ys) a.groups
+      (map aggregate_of (measures_of q.items)) (groups_of_partials xs)
+      (groups_of_partials ys) a.groups
       (told_reordered xs ys h) a.merged;
   in_order = a.in_order;
   cells = a.cells;

@@ -1,7 +1,6 @@
 -- Totals that are added up under all groupings are those of the groups.
-use Rattle.std.proofs.Common.{◌≡◌, ◌∙◌, ◌⊎◌, ℕ, Bool, true, false, ◌&&◌, List, [], ◌∷◌, ◌++◌, Option, Some, None, map, cond, refl, sym, subst, ap, inl, inr, ⊎_elim, true≢false, IsTrue, arith}
+use Rattle.std.proofs.{Common.{◌≡◌, ◌∙◌, ◌⊎◌, ℕ, Bool, true, false, ◌&&◌, List, [], ◌∷◌, ◌++◌, Option, Some, None, map, cond, refl, sym, subst, ap, inl, inr, ⊎_elim, true≢false, IsTrue, arith}, lemmas.Grind.common_steps}
 use Rattle.star_merge_laws.proofs.Common.{Aggregate, All, All-append, All-cons, All-contains, All-contains_itself, All-filter, All-map, All-nil, All-weaker, AreAddedUp, AreMerged, Contains, Contains-append_cases, Contains-append_left, Contains-append_right, Decides, Entry, Equal, Greater, GroupRow, IsGroup, IsMasked, Less, Ordering, Shape, added, all_added, and_parts, append-nil, are_same, as_row, belongs, contains_cases, contains_here, contains_later, contains_mapped, contains_none, filter, filter-append, filter_agree, filter_passes, flat_map, from_contains_map, is_eq, is_grouping, key_cmp, masks, ordering_then, parts_of, replicate, slice_cmp, total_over}
-use Rattle.std.proofs.lemmas.Grind.{common_steps}
 
 -- ---- lists
 
@@ -54,8 +53,7 @@ module _ {X Y : Type 0} where
   none_mapped p f none xs =
       filter_mapped p f xs ∙ ap (map f) (none_pass (λ x. p (f x)) none xs)
 
-  map_cond : (f : X → Y) (b : Bool) (x : X)
-      → map f (cond b (x ∷ []) []) ≡ cond b (f x ∷ []) []
+  map_cond : (f : X → Y) (b : Bool) (x : X) → map f (cond b (x ∷ []) []) ≡ cond b (f x ∷ []) []
   map_cond f true x = refl
   map_cond f false x = refl
 
@@ -201,7 +199,8 @@ module _ {K : Type 0} (cmp : K → K → Ordering)
     added_group count groups more c =
         let piece = in_piece (added s) groups more c in
         let ks = (as_row piece.0).keys in
-        let mask = from_contains_map (under piece.0) (filter (is_grouping s) (masks ks)) more piece.2
+        let mask = from_contains_map (under piece.0)
+        (filter (is_grouping s) (masks ks)) more piece.2
         in let kept = kept_contains (is_grouping s) (masks ks) mask.0 mask.1 in
         let own : mask.0 ≡ more.keys = ap (λ (g : GroupRow K). g.keys) mask.2 in (
           subst (λ keys. is_grouping s keys ≡ true) own kept.1,
@@ -220,7 +219,8 @@ module _ {K : Type 0} (cmp : K → K → Ordering)
     group_added groups keys row is c masked =
         let from = from_contains_map as_row groups row c in
         let ks = (as_row from.0).keys in
-        let own : IsMasked keys ks = subst (λ (r : Entry K). IsMasked keys r.keys) (sym from.2) masked
+        let own : IsMasked keys ks =
+        subst (λ (r : Entry K). IsMasked keys r.keys) (sym from.2) masked
         in (
           under from.0 keys,
           piece_in (added s) groups from.0 (under from.0 keys) from.1

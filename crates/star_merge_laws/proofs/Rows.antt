@@ -1,8 +1,6 @@
 -- The rows that a plan selects of lineorder's rows are those that it selects of each part.
-use Rattle.std.proofs.Common.{◌≡◌, ◌∙◌, ℕ, ◌+◌, true, List, [], ◌∷◌, ◌++◌, Option, Some, None, refl, sym, ap, true≢false, arith}
-use Rattle.star_merge_laws.proofs.Common.{Database, Join, Joined, Lineorder, Plan, Row, TableId, all_of, and_parts, filter, filter-append, flat_map, flat_map-append, is_foreign, joined_rows, list_all, matches, only_row, partners, plan_rows, references, refers, rows_in, sum_by, table_of, table_same, tables_with, with_row}
-use Rattle.star_merge_laws.proofs.LoadableParts.{IsBeside, referred_beside, rows_beside}
-use Rattle.std.proofs.lemmas.Grind.{common_steps}
+use Rattle.std.proofs.{Common.{◌≡◌, ◌∙◌, ℕ, ◌+◌, true, List, [], ◌∷◌, ◌++◌, Option, Some, None, refl, sym, ap, true≢false, arith}, lemmas.Grind.common_steps}
+use Rattle.star_merge_laws.proofs.{Common.{Database, Join, Joined, Lineorder, Plan, Row, TableId, all_of, and_parts, filter, filter-append, flat_map, flat_map-append, is_foreign, joined_rows, list_all, matches, only_row, partners, plan_rows, references, refers, rows_in, sum_by, table_of, table_same, tables_with, with_row}, LoadableParts.{IsBeside, referred_beside, rows_beside}}
 
 -- ---- joins are with other tables than lineorder
 

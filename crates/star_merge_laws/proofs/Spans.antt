@@ -1,7 +1,6 @@
 -- Spans in a chain lie apart, in whatever order their parts come.
 use Rattle.std.proofs.Common.{◌≡◌, ◌∙◌, Bool, true, ◌||◌, List, [], ◌∷◌, ◌++◌, Option, Some, None, AllPairs, refl, subst, ap, arith, ⊎_elim}
-use Rattle.star_merge_laws.proofs.Common.{All-cons, All-contains, All-from_recursion, All-head, All-tail, AllByRecursion, AllPairs-cons, AreDisjoint, AreInSequence, Contains, IsBefore, IsPermutation, IsTotalOrder, LineorderPart, Span, are_disjoint, contains_cases, contains_here, contains_later, int_cmp_total, is_lt, key_list_cmp, lists_total, of_each, option_to_list, or_comm, reordered, spans_of}
-use Rattle.star_merge_laws.proofs.LoadableParts.{is_less, less_upto, pairs_head, pairs_tail}
+use Rattle.star_merge_laws.proofs.{Common.{All-cons, All-contains, All-from_recursion, All-head, All-tail, AllByRecursion, AllPairs-cons, AreDisjoint, AreInSequence, Contains, IsBefore, IsPermutation, IsTotalOrder, LineorderPart, Span, are_disjoint, contains_cases, contains_here, contains_later, int_cmp_total, is_lt, key_list_cmp, lists_total, of_each, option_to_list, or_comm, reordered, spans_of}, LoadableParts.{is_less, less_upto, pairs_head, pairs_tail}}
 
 order : IsTotalOrder key_list_cmp
 order = lists_total int_cmp_total
@@ -53,11 +52,13 @@ before_all span (part ∷ parts) h =
         → (are_disjoint (Some span) o ≡ true) × Ends span (spans_of parts)
     by None h = (refl, h)
     by (Some next) h = (
-      or_left (is_lt (key_list_cmp span.high next.low)) (is_lt (key_list_cmp next.high span.low)) h.0,
+      or_left (is_lt (key_list_cmp span.high next.low))
+          (is_lt (key_list_cmp next.high span.low)) h.0,
       h.1,
     )
 
-none_apart : (parts : List LineorderPart) → AllByRecursion (λ part. are_disjoint None part.span ≡ true) parts
+none_apart : (parts : List LineorderPart)
+    → AllByRecursion (λ part. are_disjoint None part.span ≡ true) parts
 none_apart [] = tt
 none_apart (part ∷ parts) = grind (arith, none_apart parts, apart_alike)
 
@@ -73,7 +74,8 @@ chained_apart (part ∷ parts) h =
     (chained_apart parts both.1)
   where
     by : (o : Option Span) → AreInSequence (option_to_list o ++ spans_of parts)
-        → AllByRecursion (λ other. are_disjoint o other.span ≡ true) parts × AreInSequence (spans_of parts)
+        → AllByRecursion (λ other. are_disjoint o other.span ≡ true) parts
+        × AreInSequence (spans_of parts)
     by None h = (none_apart parts, h)
     by (Some span) h =
         (before_all span parts (all_before span (spans_of parts) h.1 h.2), h.2)

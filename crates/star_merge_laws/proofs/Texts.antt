@@ -1,8 +1,6 @@
 -- What is merged of parts' texts is the report over the whole text.
 use Rattle.std.proofs.Common.{◌≡◌, ◌∙◌, ℕ, ◌+◌, ◌≤◌, List, [], ◌∷◌, ◌++◌, map, refl, sym, subst, ap, arith}
-use Rattle.star_merge_laws.proofs.Common.{All, All-cons, All-head, All-nil, All-tail, AreDisjoint, AreShards, Cell, IsAnswer, IsLoadable, IsLoadablePart, IsMergedAnswer, IsPartial, IsReport, IsResolved, IsTextShard, IsWellNamed, Lineorder, Means, Plan, Shard, TableTexts, TextShard, Tree, all_of, database_of, length, length-map, records_in, report_text, row_of, rows_in, rows_of, rows_of_partials, shard_partials, shard_rows, sum_by-cons, text_partials, text_parts, whole_text, with_lineorder, with_lineorder_text}
-use Rattle.star_merge_laws.proofs.LoadableParts.{parts_loadable, records_joined, rows_joined}
-use Rattle.star_merge_laws.proofs.MergedAnswers.{merged_answer}
+use Rattle.star_merge_laws.proofs.{Common.{All, All-cons, All-head, All-nil, All-tail, AreDisjoint, AreShards, Cell, IsAnswer, IsLoadable, IsLoadablePart, IsMergedAnswer, IsPartial, IsReport, IsResolved, IsTextShard, IsWellNamed, Lineorder, Means, Plan, Shard, TableTexts, TextShard, Tree, all_of, database_of, length, length-map, records_in, report_text, row_of, rows_in, rows_of, rows_of_partials, shard_partials, shard_rows, sum_by-cons, text_partials, text_parts, whole_text, with_lineorder, with_lineorder_text}, LoadableParts.{parts_loadable, records_joined, rows_joined}, MergedAnswers.merged_answer}
 
 module _ (most : ℕ) (texts : TableTexts) (q : Tree) where
   abbrev AreTextShards : List TextShard → Type 0
@@ -80,7 +78,8 @@ module _ (most : ℕ) (texts : TableTexts) (q : Tree) where
           named = named;
           names = names;
           rows = rows;
-          answer = subst (λ lines. IsAnswer (rows_in (with_lineorder (database_of texts) lines)) q names rows)
+          answer = subst (λ lines. IsAnswer (rows_in
+              (with_lineorder (database_of texts) lines)) q names rows)
               (sym (rows_are (shard ∷ shards))) answer;
           printed = printed;
         }

@@ -1,7 +1,6 @@
 -- Aggregates over rows that pass one of two tests.
-use Rattle.std.proofs.Common.{◌≡◌, ◌∙◌, ℕ, ◌+◌, Bool, true, false, ◌&&◌, ◌||◌, List, [], ◌∷◌, ◌++◌, Option, Some, None, map, cond, refl, sym, ap, arith, true≢false}
+use Rattle.std.proofs.{Common.{◌≡◌, ◌∙◌, ℕ, ◌+◌, Bool, true, false, ◌&&◌, ◌||◌, List, [], ◌∷◌, ◌++◌, Option, Some, None, map, cond, refl, sym, ap, arith, true≢false}, lemmas.Grind.common_steps}
 use Rattle.star_merge_laws.proofs.Common.{Aggregate, Count, Entry, aggregate, both, clamps, filter, ints, joined, joined_with, merged, merged_totals, pos, slice_index_or, totals_from, totals_of, ℤ}
-use Rattle.std.proofs.lemmas.Grind.{common_steps}
 
 both_comm : (g : Aggregate) (x y : ℤ) → both g x y ≡ both g y x
 both_comm it x y = grind (arith, ints, clamps)
@@ -86,13 +85,14 @@ module _ {X : Type 0} (g : Aggregate) (number : X → ℤ) where
 module _ {K : Type 0} (p q either : Entry K → Bool) (more xs : List (Entry K))
     (is : (x : Entry K) → either x ≡ (p x || q x))
     (not_both : (x : Entry K) → (p x && q x) ≡ false) where
-  totals_from_either : (gs : List Aggregate) (place : ℕ)
-      → totals_from gs place (filter either xs ++ more)
-      ≡ merged_totals gs (totals_from gs place (filter p xs)) (totals_from gs place (filter q xs ++ more))
-  totals_from_either [] place = refl
-  totals_from_either (g ∷ gs) place =
-      λ i. over_either g (λ row. slice_index_or row.values place (pos 0)) p q either more is
-      not_both xs i ∷ totals_from_either gs (place + 1) i
+  totals_from_either : (gs : List Aggregate) (index : ℕ)
+      → totals_from gs index (filter either xs ++ more)
+      ≡ merged_totals gs (totals_from gs index (filter p xs))
+      (totals_from gs index (filter q xs ++ more))
+  totals_from_either [] index = refl
+  totals_from_either (g ∷ gs) index =
+      λ i. over_either g (λ row. slice_index_or row.values index (pos 0)) p q either more is
+      not_both xs i ∷ totals_from_either gs (index + 1) i
 
   -- the aggregates of rows that pass one of two tests
   pub totals_either : (gs : List Aggregate)

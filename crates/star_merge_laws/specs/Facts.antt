@@ -1,4 +1,5 @@
--- The facts that decide the refusals of a query: the row count of lineorder and the bounds of columns.
+-- The facts that decide the refusals of a query: the row count of lineorder and the bounds of
+-- columns.
 use Rattle.std.specs.Prelude.{◌≡◌, ◌+◌, ℕ, zero, suc, All, List, [], ◌∷◌, length}
 use Rattle.star_interval.specs.Range.{Range, hull}
 use Rattle.star_schema.specs.{declared.column.ColumnId.ColumnId, declared.table.TableId.TheVariants.Lineorder, Columns.bounds_in, Database.Database, Database.rows_in, Tables.Value}

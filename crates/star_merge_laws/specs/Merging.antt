@@ -1,10 +1,7 @@
--- Groups over the rows of several parts, merged from the plain groups of each: SUM, COUNT, MIN and MAX
--- are distributive (Gray et al. 1997, section 5).
-use Rattle.std.specs.Prelude.{◌≡◌, ◌≢◌, ℕ, ℤ, ◌+ℤ◌, List, [], ◌∷◌, AllPairs, Contains, Option, Some, None, filter, map}
-use Rattle.std.specs.{Int.int_min, Int.int_max, List.flat_map, Option.option_to_list, declared.cmp.Ordering.Ordering}
-use Rattle.star_schema.specs.Groups.{AreGroups, Entry, GroupRow, IsGroup, belongs, totals_of}
-use Rattle.star_schema.specs.{declared.group.Aggregate.Aggregate, declared.group.Aggregate.TheVariants.Sum, declared.group.Aggregate.TheVariants.Count, declared.group.Aggregate.TheVariants.Min, declared.group.Aggregate.TheVariants.Max, declared.group.Shape.Shape}
-use Rattle.star_schema.specs.{declared.group.Shape.TheVariants.Plain}
+-- Groups over the rows of several parts, merged from the plain groups of each: SUM, COUNT, MIN and
+-- MAX are distributive (Gray et al. 1997, section 5).
+use Rattle.std.specs.{Prelude.{◌≡◌, ◌≢◌, ℕ, ℤ, ◌+ℤ◌, List, [], ◌∷◌, AllPairs, Contains, Option, Some, None, filter, map}, Int.{int_min, int_max}, List.flat_map, Option.option_to_list, declared.cmp.Ordering.Ordering}
+use Rattle.star_schema.specs.{Groups.{AreGroups, Entry, GroupRow, IsGroup, belongs, totals_of}, declared.group.Aggregate.Aggregate, declared.group.Aggregate.TheVariants.{Sum, Count, Min, Max}, declared.group.Shape.Shape, declared.group.Shape.TheVariants.Plain}
 
 -- an aggregate over two sets of rows, from those over each: counts are added
 abbrev pub both : Aggregate → ℤ → ℤ → ℤ

@@ -1,11 +1,9 @@
 -- Partials: the state of a query over one part of lineorder, and the answer merged from all parts.
-use Rattle.std.specs.Prelude.{◌≡◌, ◌≤◌, All, ℕ, List, [], length, map, pos, true}
-use Rattle.std.specs.{List.flat_map, List.list_all, List.sum_by, Option.option_map_or}
+use Rattle.std.specs.{Prelude.{◌≡◌, ◌≤◌, All, ℕ, List, [], length, map, pos, true}, List.{flat_map, list_all, sum_by}, Option.option_map_or}
 use Rattle.star_schema.specs.{declared.group.Shape.TheVariants.Plain, declared.table.TableId.TheVariants.Lineorder, Database.Database, Database.TableTexts, Groups.AreGroups, Groups.GroupRow, Loadable.database_of, Order.AreInOrder, Order.value_cmp, Tables.Value, Tables.rows_of}
 use Rattle.star_query.specs.Tree.{Tree}
 use Rattle.star_interval.specs.Range.{only}
-use Rattle.star_plan.specs.Meaning.{Plan, Row, aggregate_of, entry_of, plan_rows}
-use Rattle.star_plan.specs.{Fits.measure_fits, Names.column_at}
+use Rattle.star_plan.specs.{Meaning.{Plan, Row, aggregate_of, entry_of, plan_rows}, Fits.measure_fits, Names.column_at}
 use Rattle.star_merge_laws.specs.{Facts.AreFactsOf, Facts.Facts, Merging.AreMerged, Parts.LineorderPart, Parts.IsLoadablePart, Parts.with_lineorder, Tables.tables_with}
 use Rattle.star_program.specs.{declared.outcome.Cell.Cell, RowCells.cell_of}
 use Rattle.star_query_meaning.specs.{Rows.measures_of, Rows.query_entry, Rows.selected, Shows.item_columns, Shows.item_names, Shows.sorts_of}
@@ -31,8 +29,8 @@ pub record IsPartial (database : Database) (q : Tree) (rows : List Row) (partial
 abbrev pub groups_of_partials : List Partial → List (GroupRow Value)
 groups_of_partials partials = flat_map (λ partial. partial.groups) partials
 
--- the merged answer: merged groups in the query's order, each cut to the items of SELECT, under their
--- names
+-- the merged answer: merged groups in the query's order, each cut to the items of SELECT, under
+-- their names
 pub record IsMergedAnswer (q : Tree) (partials : List Partial) (names : List (List ℕ))
     (rows : List (List Cell)) : Type 0 where
   pub headed : names ≡ item_names q.items
@@ -61,8 +59,8 @@ pub record TextShard : Type 0 where
   pub part : LineorderPart
   pub partial : Partial
 
--- it can be loaded with the dimensions of these texts, its keys are within its span, and the partial is
--- its own
+-- it can be loaded with the dimensions of these texts, its keys are within its span, and the
+-- partial is its own
 pub record IsTextShard (most : ℕ) (texts : TableTexts) (q : Tree) (shard : TextShard)
     : Type 0 where
   pub part : IsLoadablePart most texts shard.part

@@ -1,6 +1,5 @@
 -- Tables whose lineorder is in parts, each with the same dimensions.
-use Rattle.std.specs.Prelude.{◌≡◌, ◌||◌, ℕ, ℤ, All, AllPairs, Bool, true, List, [], Option, Some, None}
-use Rattle.std.specs.{Cmp.Lexicographic.slice_cmp, List.flat_map, Ordering.int_cmp, Ordering.is_le, Ordering.is_lt, declared.cmp.Ordering.Ordering}
+use Rattle.std.specs.{Prelude.{◌≡◌, ◌||◌, ℕ, ℤ, All, AllPairs, Bool, true, List, [], Option, Some, None}, Cmp.Lexicographic.slice_cmp, List.flat_map, Ordering.{int_cmp, is_le, is_lt}, declared.cmp.Ordering.Ordering}
 use Rattle.star_schema.specs.{declared.table.TableId.TheVariants.Lineorder, Database.Database, Database.TableTexts, Loadable.IsLoadable, Loadable.keys_of, Tables.Value, Tables.rows_of}
 use Rattle.star_catalogue.specs.Pieces.{with_lineorder_text}
 

@@ -1,6 +1,5 @@
 -- How groups are merged: each adds its totals to every group that it is a part of.
-use Rattle.std.specs.Prelude.{◌≡◌, ◌⊎◌, ℕ, IsTrue, Bool, List, Contains, Option, None, filter, map, replicate}
-use Rattle.std.specs.{Cmp.Lexicographic.slice_cmp, List.flat_map, Ordering.is_eq, declared.cmp.Ordering.Ordering}
+use Rattle.std.specs.{Prelude.{◌≡◌, ◌⊎◌, ℕ, IsTrue, Bool, List, Contains, Option, None, filter, map, replicate}, Cmp.Lexicographic.slice_cmp, List.flat_map, Ordering.is_eq, declared.cmp.Ordering.Ordering}
 use Rattle.star_schema.specs.{declared.group.Aggregate.Aggregate, declared.group.Shape.Shape, Groups.GroupRow, Groups.is_grouping, Order.key_cmp}
 use Rattle.star_merge_laws.specs.Merging.{as_row, total_over}
 use Rattle.star_program.specs.Puts.{masks}
@@ -18,8 +17,8 @@ added s group =
 abbrev pub all_added : {K : Type 0} → Shape → List (GroupRow K) → List (GroupRow K)
 all_added s groups = flat_map (added s) groups
 
--- a table with a row for each of these keys, and for the empty grouping if the shape has it, in which
--- the totals of equal keys are merged
+-- a table with a row for each of these keys, and for the empty grouping if the shape has it, in
+-- which the totals of equal keys are merged
 pub record AreAddedUp {K : Type 0} (cmp : K → K → Ordering) (s : Shape) (count : ℕ)
     (aggregates : List Aggregate) (parts groups : List (GroupRow K)) : Type 0 where
   pub each : (group : GroupRow K) → Contains groups group

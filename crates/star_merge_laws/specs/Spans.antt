@@ -1,6 +1,5 @@
 -- Spans in sequence: each begins after the end of the one before.
-use Rattle.std.specs.Prelude.{◌≡◌, true, List, [], ◌∷◌}
-use Rattle.std.specs.{List.flat_map, Option.option_to_list, Ordering.is_le, Ordering.is_lt}
+use Rattle.std.specs.{Prelude.{◌≡◌, true, List, [], ◌∷◌}, List.flat_map, Option.option_to_list, Ordering.{is_le, is_lt}}
 use Rattle.star_merge_laws.specs.Parts.{LineorderPart, Span, key_list_cmp}
 
 -- a span begins no later than it ends

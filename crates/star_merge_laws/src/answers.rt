@@ -1,15 +1,11 @@
 //! Laws of merged answers.
 
-ghost use Rattle.std.specs.Prelude.{◌≡◌, ◌≤◌, ◌↔◌, ◌++◌, All, ℕ, List, ◌∷◌, length, map};
-ghost use Rattle.std.specs.{List.flat_map, List.sum_by, List.Sorted.IsPermutation};
+ghost use Rattle.std.specs.{Prelude.{◌≡◌, ◌≤◌, ◌↔◌, ◌++◌, All, ℕ, List, ◌∷◌, length, map}, List.{flat_map, sum_by}, List.Sorted.IsPermutation};
 ghost use Rattle.star_schema.specs.{declared.group.Aggregate.Aggregate, declared.group.Shape.Shape, Columns.bounds_in, Database.Database, Database.TableTexts, Groups.GroupRow, Loadable.IsLoadable, Loadable.database_of, Order.value_cmp, Tables.Value};
 ghost use Rattle.star_catalogue.specs.Pieces.{with_lineorder_text};
 ghost use Rattle.star_query.specs.{Derives.Means, Tree.Tree};
-ghost use Rattle.star_plan.specs.Meaning.{Joined, Plan, Row, joined_rows, plan_rows};
-ghost use Rattle.star_plan.specs.{Resolved.IsResolved, Sound.IsSoundPlan, WellNamed.IsWellNamed};
-ghost use Rattle.star_merge_laws.specs.Parts.{LineorderPart, AreDisjoint, whole_text, with_lineorder};
-ghost use Rattle.star_merge_laws.specs.Partials.{AreShards, FitsFacts, IsMergedAnswer, IsPartial, IsPlainAnswer, IsTextShard, Partial, Shard, TextShard, shard_partials, shard_rows, text_partials, text_parts, rows_of_partials};
-ghost use Rattle.star_merge_laws.specs.{Facts.AreFactsOf, Facts.Facts, Merging.AreMerged, Merging.total_over, Plain.plain_plan, Regrouping.AreAddedUp, Spans.AreInSequence, Spans.spans_of, Tables.all_of, Tables.tables_with};
+ghost use Rattle.star_plan.specs.{Meaning.{Joined, Plan, Row, joined_rows, plan_rows}, Resolved.IsResolved, Sound.IsSoundPlan, WellNamed.IsWellNamed};
+ghost use Rattle.star_merge_laws.specs.{Parts.{LineorderPart, AreDisjoint, whole_text, with_lineorder}, Partials.{AreShards, FitsFacts, IsMergedAnswer, IsPartial, IsPlainAnswer, IsTextShard, Partial, Shard, TextShard, shard_partials, shard_rows, text_partials, text_parts, rows_of_partials}, Facts.{AreFactsOf, Facts}, Merging.{AreMerged, total_over}, Plain.plain_plan, Regrouping.AreAddedUp, Spans.{AreInSequence, spans_of}, Tables.{all_of, tables_with}};
 ghost use Rattle.star_program.specs.declared.outcome.Cell.{Cell};
 ghost use Rattle.star_report.specs.Report.{report_text};
 ghost use Rattle.star_query_meaning.specs.{Answers.IsAnswer, Fitting.FitsTables, Fitting.PlanFitsTables, Reports.IsReport, Rows.selected};
@@ -29,8 +25,7 @@ pub fn queries_select_part_by_part()
 /// A count over the joined rows of all parts is the sum of the counts over each part.
 pub fn counts_add_up_over_parts()
     ensures { (database : Database) (p : Plan) (parts : List (List Row)) (count : Joined → ℕ)
-        → IsSoundPlan p
-        → sum_by count (joined_rows (tables_with database (all_of parts)) p.joins)
+        → IsSoundPlan p → sum_by count (joined_rows (tables_with database (all_of parts)) p.joins)
         ≡ sum_by (λ part. sum_by count (joined_rows (tables_with database part) p.joins)) parts }
 {}
 
@@ -53,21 +48,18 @@ pub fn merged_answers_are_answers()
 /// answer is the report of the query over the whole.
 pub fn merged_reports_are_reports()
     ensures loadable { (most : ℕ) (texts : TableTexts) (query : Tree) (shard : TextShard)
-        (shards : List TextShard)
-        → All (IsTextShard most texts query) (shard ∷ shards)
+        (shards : List TextShard) → All (IsTextShard most texts query) (shard ∷ shards)
         → AreDisjoint (text_parts (shard ∷ shards))
         → rows_of_partials (text_partials (shard ∷ shards)) ≤ most
         → IsLoadable most (with_lineorder_text texts (whole_text (text_parts (shard ∷ shards)))) }
     ensures report { (most : ℕ) (texts : TableTexts) (text report : List ℕ) (query : Tree)
         (p : Plan) (shard : TextShard) (shards : List TextShard) (names : List (List ℕ))
-        (rows : List (List Cell))
-        → Means text query → IsWellNamed query → IsResolved query p
+        (rows : List (List Cell)) → Means text query → IsWellNamed query → IsResolved query p
         → All (IsTextShard most texts query) (shard ∷ shards)
         → IsMergedAnswer query (text_partials (shard ∷ shards)) names rows
         → report ≡ report_text names rows
-        → IsReport
-        (database_of (with_lineorder_text texts (whole_text (text_parts (shard ∷ shards))))) text
-        report }
+        → IsReport (database_of (with_lineorder_text texts
+        (whole_text (text_parts (shard ∷ shards))))) text report }
 {}
 
 /// A plan that fits all rows of lineorder fits each part that has a row: no such part is refused

@@ -1,20 +1,15 @@
 //! Laws of tables whose lineorder is in parts.
 
-ghost use Rattle.std.specs.Prelude.{◌≡◌, ◌≤◌, ◌↔◌, ◌++◌, ℕ, All, List, ◌∷◌, length, map, ◌<◌, Some};
-ghost use Rattle.std.specs.{List.flat_map, List.Sorted.IsPermutation};
-ghost use Rattle.star_schema.specs.{declared.group.Aggregate.Aggregate, declared.group.Shape.Shape, Database.Database, Database.TableTexts, Groups.AreGroups, Groups.GroupRow, Loadable.IsLoadable, Order.value_cmp, Records.records_in, Tables.Value};
-ghost use Rattle.star_schema.specs.{declared.table.TableId.TheVariants.Lineorder};
-ghost use Rattle.star_merge_laws.specs.Facts.{AreFactsOf, HaveFacts, Facts, RowsWithFacts, all_facts, joined_facts};
-ghost use Rattle.star_merge_laws.specs.Merging.{AreMerged, IsPart, Part, all_groups, all_rows};
-ghost use Rattle.star_merge_laws.specs.Parts.{LineorderPart, IsLoadablePart, AreDisjoint, whole_text, with_lineorder};
+ghost use Rattle.std.specs.{Prelude.{◌≡◌, ◌≤◌, ◌↔◌, ◌++◌, ℕ, All, List, ◌∷◌, length, map, ◌<◌, Some}, List.flat_map, List.Sorted.IsPermutation};
+ghost use Rattle.star_schema.specs.{declared.group.Aggregate.Aggregate, declared.group.Shape.Shape, Database.{Database, TableTexts}, Groups.{AreGroups, GroupRow}, Loadable.IsLoadable, Order.value_cmp, Records.records_in, Tables.Value, declared.table.TableId.TheVariants.Lineorder};
+ghost use Rattle.star_merge_laws.specs.{Facts.{AreFactsOf, HaveFacts, Facts, RowsWithFacts, all_facts, joined_facts}, Merging.{AreMerged, IsPart, Part, all_groups, all_rows}, Parts.{LineorderPart, IsLoadablePart, AreDisjoint, whole_text, with_lineorder}};
 ghost use Rattle.star_catalogue.specs.{Load.load_fault, Pieces.with_lineorder_text, declared.fault.LoadFault.TheVariants.TooManyRows};
 
 /// The groups over the rows of all parts, plain or of a cube or a rollup, are those that are merged
 /// from the plain groups of each part.
 pub fn groups_are_made_of_those_of_parts()
-    ensures { (shape : Shape) (count : ℕ) (aggregates : List Aggregate)
-        (parts : List (Part Value)) (groups : List (GroupRow Value))
-        → All (IsPart value_cmp count aggregates) parts
+    ensures { (shape : Shape) (count : ℕ) (aggregates : List Aggregate) (parts : List (Part Value))
+        (groups : List (GroupRow Value)) → All (IsPart value_cmp count aggregates) parts
         → AreMerged value_cmp shape count aggregates (all_groups parts) groups
         ↔ AreGroups value_cmp shape count aggregates (all_rows parts) groups }
 {}

@@ -1,7 +1,6 @@
 //! Laws of merged output: refusals and the counts of the notes.
 
-ghost use Rattle.std.specs.Prelude.{◌≡◌, ◌≤◌, ◌<◌, All, ℕ, List, Some, length};
-ghost use Rattle.std.specs.{List.sum_by, Option.option_map};
+ghost use Rattle.std.specs.{Prelude.{◌≡◌, ◌≤◌, ◌<◌, All, ℕ, List, Some, length}, List.sum_by, Option.option_map};
 ghost use Rattle.star_schema.specs.{declared.table.TableId.TheVariants.Lineorder, Database.Database};
 ghost use Rattle.star_query.specs.Tree.{Tree};
 ghost use Rattle.star_plan.specs.{Meaning.Plan, Meaning.Row, Resolved.IsResolved, Sound.IsSoundPlan, WellNamed.IsWellNamed};
@@ -9,8 +8,7 @@ ghost use Rattle.star_safety.specs.Admissible.{Refused, TooCostly, first_refusal
 ghost use Rattle.star_world.specs.WorldOf.{world_of};
 ghost use Rattle.star_query_meaning.specs.{Reports.IsReport, Rows.selected};
 ghost use Rattle.star_compile_laws.specs.{Compiled.compiled, Counts.lookups_of, Wide.turn_wide};
-ghost use Rattle.star_merge_laws.specs.Outputs.{IsMergedOutput, IsTask, Task, Output, task_rows};
-ghost use Rattle.star_merge_laws.specs.{Facts.AreFactsOf, Facts.Facts, Parts.with_lineorder, Plain.plain_plan, Tables.all_of, Tables.tables_with};
+ghost use Rattle.star_merge_laws.specs.{Outputs.{IsMergedOutput, IsTask, Task, Output, task_rows}, Facts.{AreFactsOf, Facts}, Parts.with_lineorder, Plain.plain_plan, Tables.{all_of, tables_with}};
 
 use star_compile_laws::acceptance::compiled_programs_are_accepted_where_they_fit_the_tables;
 

@@ -1,24 +1,15 @@
 -- Partials in another order than the parts.
-use Rattle.std.proofs.Common.{◌≡◌, ◌∙◌, ◌++◌, ℕ, List, [], ◌∷◌, AllPairs, None, Option, Some, append_assoc, arith, inl, inr, length, map, refl, subst, sym, true, ⊎_elim}
-use Rattle.std.proofs.lemmas.List.Sorted.{All-permutation, IsPermutation-append, IsPermutation-append_comm, IsPermutation-map, IsPermutation-refl, IsPermutation-sym, IsPermutation-trans, length_permutation}
-use Rattle.std.proofs.lemmas.List.Elements.{All-cons, All-contains, All-from_recursion, All-head, All-tail}
-use Rattle.std.specs.{List.Contains, List.flat_map, List.Sorted.IsPermutation}
-use Rattle.std.proofs.{Math.Bool.or_comm, lemmas.List.Kept.AllPairs-cons}
-use Rattle.std.specs.Ordering.{is_lt}
+use Rattle.std.{proofs.Common.{◌≡◌, ◌∙◌, ◌++◌, ℕ, List, [], ◌∷◌, AllPairs, None, Option, Some, append_assoc, arith, inl, inr, length, map, refl, subst, sym, true, ⊎_elim}, proofs.lemmas.List.Sorted.{All-permutation, IsPermutation-append, IsPermutation-append_comm, IsPermutation-map, IsPermutation-refl, IsPermutation-sym, IsPermutation-trans, length_permutation, sum_by-IsPermutation}, proofs.lemmas.List.Elements.{All-cons, All-contains, All-from_recursion, All-head, All-tail}, specs.List.{Contains, flat_map}, specs.List.Sorted.IsPermutation, proofs.Math.Bool.or_comm, proofs.lemmas.List.Kept.AllPairs-cons, specs.Ordering.is_lt, specs.Prelude.slice_index_or}
 use Rattle.star_common.proofs.Members.{contains_cases, contains_here, contains_later, of_each}
 use Rattle.star_interval.specs.Range.{Range}
-use Rattle.star_schema.specs.declared.table.TableId.TheVariants.{Date, Customer, Supplier, Part, Lineorder}
-use Rattle.star_schema.specs.{declared.column.ColumnId.ColumnId, declared.table.TableId.TableId, Database.Database, Database.rows_in, Groups.GroupRow, Tables.Value}
+use Rattle.star_schema.specs.{declared.table.TableId.TheVariants.{Date, Customer, Supplier, Part, Lineorder}, declared.column.ColumnId.ColumnId, declared.table.TableId.TableId, Database.{Database, rows_in}, Groups.GroupRow, Tables.Value}
 use Rattle.star_plan.specs.Meaning.{Plan, Row, aggregate_of}
 use Rattle.star_program.specs.declared.outcome.Outcome.{Outcome}
 use Rattle.star_query_meaning.proofs.Reorderings.{reordered}
 use Rattle.star_partial.specs.Contents.{Contents}
-use Rattle.star_merge_laws.specs.{Parts.AreDisjoint, Parts.LineorderPart, Parts.Span, Parts.are_disjoint, Parts.key_list_cmp, Parts.with_lineorder, Tables.all_of}
-use Rattle.star_merge_laws.proofs.Facts.{facts_reordered}
-use Rattle.star_merge_laws.proofs.LoadableParts.{pairs_head, pairs_tail}
-use Rattle.star_merge_laws.proofs.PartialFacts.{merged_moved}
-use Rattle.star_merge.specs.{Cells.group_of, Merged.AreOfShape, Merged.IsFull}
-use Rattle.star_merger.specs.{Private.Outcomes.IsMergedOutcome, Private.Outcomes.all_shown, Private.Outcomes.groups_of, Private.Shares.Share, Private.Shares.share_rows, Private.Shown.HasFacts, Private.Shown.IsUsable, Private.Shown.counted, Private.Shown.rows_shown}
+use Rattle.star_merge_laws.{specs.Parts.{AreDisjoint, LineorderPart, Span, are_disjoint, key_list_cmp, with_lineorder}, specs.Tables.all_of, proofs.Facts.facts_reordered, proofs.LoadableParts.{pairs_head, pairs_tail}, proofs.PartialFacts.merged_moved}
+use Rattle.star_merge.specs.{Cells.group_of, Merged.AreOfShape, Merged.IsFull, Merged.distance}
+use Rattle.star_merger.specs.{Private.Outcomes.HasRoom, Private.Outcomes.IsMergedOutcome, Private.Outcomes.all_shown, Private.Outcomes.groups_of, Private.Shares.Share, Private.Shares.share_rows, Private.Shown.HasFacts, Private.Shown.IsUsable, Private.Shown.counted, Private.Shown.lookups_in, Private.Shown.rows_shown, Private.Shown.updates_in}
 
 module _ {X Y : Type 0} (f : X → List Y) where
   flat_under : (x : X) (xs ys : List X) → IsPermutation (flat_map f xs) (flat_map f ys)
@@ -58,13 +49,31 @@ shape_reordered p xs ys h (inl none) =
 shape_reordered p xs ys h (inr full) =
     inr (All-permutation (IsFull (length p.keys) (map aggregate_of p.measures)) xs ys h full)
 
+groups_reordered : (p : Plan) (all others : List Contents) → IsPermutation all others
+    → IsPermutation (groups_of p all) (groups_of p others)
+groups_reordered p all others h =
+    flat_reordered (λ rows. map (group_of (length p.keys)) rows) (all_shown all) (all_shown others)
+    (flat_reordered (λ (contents : Contents). rows_shown contents.run) all others h)
+
+pub room_reordered : (p : Plan) (all others : List Contents) → IsPermutation all others
+    → HasRoom p all → HasRoom p others
+room_reordered p all others h room = record {
+  lookups = omega (arith, room.lookups, counted_reordered lookups_in all others h);
+  updates = omega (arith, room.updates, counted_reordered updates_in all others h);
+  totals = λ index. omega (
+    arith,
+    room.totals index,
+    sum_by-IsPermutation (λ group. distance (slice_index_or group.totals index None))
+        (groups_of p all) (groups_of p others) (groups_reordered p all others h),
+  );
+}
+
 -- the outcome that is merged from partials is that from them in another order
 pub outcome_reordered : (p : Plan) (all others : List Contents) (count : ℕ) (outcome : Outcome)
     → IsPermutation all others → IsMergedOutcome p all count outcome
     → IsMergedOutcome p others count outcome
 outcome_reordered p all others count outcome h is =
-    let groups = flat_reordered (λ rows. map (group_of (length p.keys)) rows) (all_shown all)
-    (all_shown others) (flat_reordered (λ (contents : Contents). rows_shown contents.run) all others h) in
+    let groups = groups_reordered p all others h in
     record {
       usable = All-permutation IsUsable all others h is.usable;
       names = is.names;

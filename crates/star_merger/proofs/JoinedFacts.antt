@@ -1,48 +1,41 @@
 -- The facts of a part and of further parts together.
-use Rattle.std.proofs.Common.{◌≡◌, ◌∙◌, ◌+◌, ◌<◌, ◌≤◌, ◌^◌, ℕ, zero, suc, List, [], ◌∷◌, ◌++◌, ap, append-nil, arith, length, map, refl, rules, slice_get, slice_index_or, subst, sym}
-use Rattle.std.proofs.lemmas.List.{length-append, length-map}
-use Rattle.std.proofs.lemmas.List.Elements.{All-head, All-tail}
-use Rattle.std.specs.{List.All}
-use Rattle.std.specs.Prelude.{None, pos}
+use Rattle.std.{proofs.Common.{◌≡◌, ◌∙◌, ◌+◌, ◌<◌, ◌≤◌, ◌^◌, ℕ, zero, suc, List, [], ◌∷◌, ◌++◌, ap, append-nil, arith, length, map, refl, rules, slice_get, slice_index_or, subst, sym}, proofs.lemmas.List.{length-append, length-map}, proofs.lemmas.List.Elements.{All-head, All-tail}, specs.List.All, specs.Prelude.{None, pos}}
 use Rattle.star_interval.specs.{Range.Range, Interval.range_of, declared.Interval.Interval}
-use Rattle.star_schema.specs.{declared.column.ColumnId.ColumnId, declared.table.TableId.TableId, declared.table.TableId.TheVariants.Date, declared.table.TableId.TheVariants.Customer, declared.table.TableId.TheVariants.Supplier, declared.table.TableId.TheVariants.Part, declared.table.TableId.TheVariants.Lineorder, Database.Database, Database.rows_in, Schema.index_of, Sizes.size_of}
-use Rattle.star_schema.proofs.Same.{index_within}
+use Rattle.star_schema.{specs.declared.column.ColumnId.ColumnId, specs.declared.table.TableId.TableId, specs.declared.table.TableId.TheVariants.{Date, Customer, Supplier, Part, Lineorder}, specs.Database.{Database, rows_in}, specs.Schema.index_of, specs.Sizes.size_of, proofs.Same.index_within}
 use Rattle.star_plan.specs.Meaning.{Row}
 use Rattle.star_partial.specs.Contents.{Contents, bounds_at, range_if}
-use Rattle.star_merger.specs.Partials.{contents_of}
-use Rattle.star_merger.specs.declared.partial.Partial.{Partial}
+use Rattle.star_merger.specs.{Partials.contents_of, declared.partial.Partial.Partial, Private.Shown.{HasFacts, HasOwnFacts}, Private.Shares.{Share, contents_of_shares, share_rows}}
 use Rattle.star_merge_laws.specs.{Facts.AreFactsOf, Facts.Facts, Facts.hull_of_rows, Facts.joined_facts, Parts.with_lineorder, Tables.all_of}
 use Rattle.star_verify.specs.{Facts.AreFacts}
 use Rattle.star_verify.specs.declared.facts.Facts.{Facts as Known}
 use Rattle.star_world.specs.WorldOf.{world_of}
-use Rattle.star_merger.specs.{Private.Shown.HasFacts, Private.Shown.HasOwnFacts, Private.Shares.Share, Private.Shares.contents_of_shares, Private.Shares.share_rows}
 
-at : (xs : List Interval) (place : ℕ) (any : Interval) → place < length xs
-    → range_if (slice_get xs place) ≡ range_of (slice_index_or xs place any)
-at [] place any h = absurd (omega (arith, h))
+at : (xs : List Interval) (index : ℕ) (any : Interval) → index < length xs
+    → range_if (slice_get xs index) ≡ range_of (slice_index_or xs index any)
+at [] index any h = absurd (omega (arith, h))
 at (x ∷ xs) zero any h = refl
-at (x ∷ xs) (suc place) any h = at xs place any (omega (arith, h))
+at (x ∷ xs) (suc index) any h = at xs index any (omega (arith, h))
 
 -- with the range of no interval past the end
-at_any : (xs : List Interval) (place : ℕ) (none : Interval) → range_of none ≡ range_if None
-    → range_if (slice_get xs place) ≡ range_of (slice_index_or xs place none)
-at_any [] place none is = sym is
+at_any : (xs : List Interval) (index : ℕ) (none : Interval) → range_of none ≡ range_if None
+    → range_if (slice_get xs index) ≡ range_of (slice_index_or xs index none)
+at_any [] index none is = sym is
 at_any (x ∷ xs) zero none is = refl
-at_any (x ∷ xs) (suc place) none is = at_any xs place none is
+at_any (x ∷ xs) (suc index) none is = at_any xs index none is
 
 -- what a join of bounds says of each position, it says of each column
 pub joined_bounds : (rows more : ℕ) (bounds others joined : List Interval)
-    → ((place : ℕ) (any : Interval) → place < 58 → range_of (slice_index_or joined place any)
-    ≡ hull_of_rows rows more (range_of (slice_index_or bounds place any))
-    (range_of (slice_index_or others place any)))
+    → ((index : ℕ) (any : Interval) → index < 58 → range_of (slice_index_or joined index any)
+    ≡ hull_of_rows rows more (range_of (slice_index_or bounds index any))
+    (range_of (slice_index_or others index any)))
     → (c : ColumnId)
     → bounds_at joined c ≡ hull_of_rows rows more (bounds_at bounds c) (bounds_at others c)
 joined_bounds rows more bounds others joined each c =
-    let place = index_of c in
+    let index = index_of c in
     let none : Interval = record { low = pos 0; high = pos 0; ordered = search rules } in
-    at_any joined place none refl ∙ each place none (index_within c)
-    ∙ (λ i. hull_of_rows rows more (sym (at_any bounds place none refl) i)
-    (sym (at_any others place none refl) i))
+    at_any joined index none refl ∙ each index none (index_within c)
+    ∙ (λ i. hull_of_rows rows more (sym (at_any bounds index none refl) i)
+    (sym (at_any others index none refl) i))
 
 module _ (database : Database) (rows others : List Row) (a b sizes : TableId → ℕ)
     (of_rows of_others bounds : ColumnId → Range)
@@ -122,8 +115,8 @@ module _ (database : Database) (first : Contents) where
       contents.bounds) (sym same) facts
 
   pub first_facts : (more : List Contents) (share : Share) (shares : List Share) → length more ≡ 0
-      → first ∷ more ≡ contents_of_shares (share ∷ shares) → All (HasOwnFacts database) (share ∷ shares)
-      → OfFirst (all_of (share_rows (share ∷ shares)))
+      → first ∷ more ≡ contents_of_shares (share ∷ shares)
+      → All (HasOwnFacts database) (share ∷ shares) → OfFirst (all_of (share_rows (share ∷ shares)))
   first_facts more share [] none same are =
       subst OfFirst (sym (append-nil share.rows))
       (own share (ap (head_or first) same) (All-head (HasOwnFacts database) share [] are))
@@ -132,7 +125,8 @@ module _ (database : Database) (first : Contents) where
 
   pub next_facts : (next : Contents) (more rest : List Contents) (share : Share)
       (shares : List Share) (Goal : List Share → Type 0) → more ≡ next ∷ rest
-      → first ∷ more ≡ contents_of_shares (share ∷ shares) → All (HasOwnFacts database) (share ∷ shares)
+      → first ∷ more ≡ contents_of_shares (share ∷ shares)
+      → All (HasOwnFacts database) (share ∷ shares)
       → ((second : Share) (others : List Share) → next ∷ rest ≡ contents_of_shares (second ∷ others)
       → All (HasOwnFacts database) (second ∷ others) → OfFirst share.rows → Goal (second ∷ others))
       → Goal shares
@@ -155,7 +149,6 @@ some_mapped partials rest next is = ap (map contents_of) is
 pub all_are : (database : Database) (partials more : List Partial) (first : Partial) (share : Share)
     (shares : List Share) (Goal : Type 0) → partials ≡ first ∷ more
     → map contents_of partials ≡ contents_of_shares (share ∷ shares)
-    → (contents_of first ∷ map contents_of more ≡ contents_of_shares (share ∷ shares) → Goal)
-    → Goal
+    → (contents_of first ∷ map contents_of more ≡ contents_of_shares (share ∷ shares) → Goal) → Goal
 all_are database partials more first share shares Goal is same on =
     on (ap (map contents_of) (sym is) ∙ same)

@@ -8,3 +8,8 @@ pub mod Results
 pub mod AnyOrder
 pub mod Told
 pub mod TextsApart
+pub mod Narrow
+pub mod Room
+pub mod JoinedValues
+pub mod PlainCells
+pub mod SpelledOf

@@ -1,12 +1,8 @@
 -- What a merge returns is what a query's call returns over all parts.
-use Rattle.std.proofs.Common.{◌≡◌, ◌∙◌, ◌↔◌, ◌<◌, ◌≤◌, ℕ, Bool, List, None, Option, Some, ap, inl, inr, refl, subst, sym}
-use Rattle.std.specs.{List.All, Option.option_map, Prelude.Err, Prelude.IfErr, Prelude.Ok, Prelude.Result}
+use Rattle.std.{proofs.Common.{◌≡◌, ◌∙◌, ◌↔◌, ◌<◌, ◌≤◌, ℕ, Bool, List, None, Option, Some, ap, inl, inr, refl, subst, sym}, specs.List.All, specs.Option.option_map, specs.Prelude.{Err, IfErr, Ok, Result}}
 use Rattle.star_common.specs.Memory.{UnlessMemory}
-use Rattle.star_schema.specs.{declared.table.TableId.TheVariants.Lineorder, Columns.bounds_in, Database.Database, Database.TableTexts, Database.rows_in, Loadable.IsLoadable, Loadable.database_of}
-use Rattle.star_schema.proofs.Typed.{rows_typed}
-use Rattle.star_catalogue.specs.declared.fault.LoadFault.{LoadFault}
-use Rattle.star_catalogue.specs.declared.fault.LoadFault.TheVariants.{TooManyRows}
-use Rattle.star_catalogue.proofs.SmallNumbers.{bounds_small}
+use Rattle.star_schema.{specs.declared.table.TableId.TheVariants.Lineorder, specs.Columns.bounds_in, specs.Database.{Database, TableTexts, rows_in}, specs.Loadable.{IsLoadable, database_of}, proofs.Typed.rows_typed}
+use Rattle.star_catalogue.{specs.declared.fault.LoadFault.LoadFault, specs.declared.fault.LoadFault.TheVariants.TooManyRows, proofs.SmallNumbers.bounds_small}
 use Rattle.star_plan.specs.Meaning.{Plan}
 use Rattle.star_safety.specs.Admissible.{IsAdmissible, first_refusal}
 use Rattle.star_verify.specs.{declared.refusal.Refusal.Refusal, Views.refusal_view}
@@ -14,12 +10,8 @@ use Rattle.star_world.specs.WorldOf.{world_of}
 use Rattle.star_partial.specs.Contents.{Contents}
 use Rattle.star_compile_laws.specs.{Compiled.compiled, Judged.IsOverflow, Wide.turn_wide}
 use Rattle.star_merge_laws.specs.Parts.{Span}
-use Rattle.star_engine.specs.{declared.fault.EngineFault.EngineFault, Answered.Change, Answered.IsUntouched, Executions.IsAcceptedWithin, Executions.quote_over, Faults.fault_of_refusal, Loads.AreLoadedRows, WithNotes.IsAnsweredWithNotes, WithNotes.HasGainedQuote, WithNotes.RunText}
-use Rattle.star_engine.specs.Queries.{FitsRows, IsPlanOf, IsQueryRefusal, fact_rows}
-use Rattle.star_engine.proofs.NotedAs.{noted_as}
-use Rattle.star_engine.proofs.Noting.{note_broken}
-use Rattle.star_merger.specs.declared.fault.{PartialFault.PartialFault, PartialsFault.PartialsFault}
-use Rattle.star_merger.specs.{Merged.IsMerged, Merged.IsOverlap, Merged.IsUnprinted, Private.Checked.IsUnchecked, Private.Outcomes.IsUnmerged, Private.Shown.IsUsable, Private.Written.IsRefusedAfter, Private.Written.as_merge}
+use Rattle.star_engine.{specs.declared.fault.EngineFault.EngineFault, specs.Answered.{Change, IsUntouched}, specs.Executions.{IsAcceptedWithin, quote_over}, specs.Faults.fault_of_refusal, specs.Loads.AreLoadedRows, specs.WithNotes.{IsAnsweredWithNotes, HasGainedQuote, RunText}, specs.Queries.{FitsRows, IsPlanOf, IsQueryRefusal, fact_rows}, proofs.NotedAs.noted_as, proofs.Noting.note_broken}
+use Rattle.star_merger.specs.{declared.fault.PartialFault.PartialFault, declared.fault.PartialsFault.PartialsFault, Merged.{IsMerged, IsOverlap, IsUnprinted}, Private.Checked.IsUnchecked, Private.Outcomes.{HasRoom, IsUnmerged}, Private.Shown.IsUsable, Private.Written.{IsRefusedAfter, as_merge}}
 use Rattle.star_safety.specs.Admissible as admissible
 use Rattle.star_engine.specs.declared.fault.EngineFault.TheVariants as engine
 use Rattle.star_verify.specs.declared.refusal.Refusal.TheVariants as why
@@ -55,45 +47,45 @@ module _ {S N : Type 0} (out : Change S) (notes : Change N) where
       → IsMerged out notes IsQuote IsTold IsDue (IsOverlap is_distinct spans) (Err fault)
   not_checked IsQuote IsTold IsDue most whole is_distinct spans (merging.Engine (engine.Load fault))
       due same still is = (due fault is.0 is.1, same, still)
-  not_checked IsQuote IsTold IsDue most whole is_distinct spans (merging.Engine _) due same still is =
+  not_checked IsQuote IsTold IsDue most whole is_distinct spans
+      (merging.Engine _) due same still is =
       absurd is
-  not_checked IsQuote IsTold IsDue most whole is_distinct spans (merging.Partial place fault other)
+  not_checked IsQuote IsTold IsDue most whole is_distinct spans (merging.Partial index fault other)
       due same still is = (is, same, still)
 
   -- no outcome
   pub not_merged : (IsQuote : List ℕ → Type 0) (IsTold : RunText → Type 0)
-      (IsDue : EngineFault → Type 0) (all : List Contents) (fault : PartialsFault)
-      → IsUntouched out → IsUntouched notes → IsUnmerged all fault
-      → IsMerged out notes IsQuote IsTold IsDue (IsUnmerged all) (Err fault)
-  not_merged IsQuote IsTold IsDue all (merging.Engine engine.OutOfMemory) same still is =
+      (IsDue : EngineFault → Type 0) (p : Plan) (all : List Contents) (fault : PartialsFault)
+      → IsUntouched out → IsUntouched notes → IsUnmerged p all fault
+      → IsMerged out notes IsQuote IsTold IsDue (IsUnmerged p all) (Err fault)
+  not_merged IsQuote IsTold IsDue p all (merging.Engine engine.OutOfMemory) same still is =
       (same, inl still)
-  not_merged IsQuote IsTold IsDue all (merging.Engine _) same still is = absurd is
-  not_merged IsQuote IsTold IsDue all (merging.Partial place fault other) same still is =
+  not_merged IsQuote IsTold IsDue p all (merging.Engine _) same still is = absurd is
+  not_merged IsQuote IsTold IsDue p all (merging.Partial index fault other) same still is =
       (is, same, still)
 
   pub merged_as : (Quote OtherQuote : List ℕ → Type 0) (Told OtherRun : RunText → Type 0)
       (Due OtherDue : EngineFault → Type 0) (Bad OtherBad : PartialsFault → Type 0)
-      (result : Result (Unit {0}) PartialsFault)
-      → ((note : List ℕ) → Quote note → OtherQuote note)
+      (result : Result (Unit {0}) PartialsFault) → ((note : List ℕ) → Quote note → OtherQuote note)
       → ((run : RunText) → Told run → OtherRun run)
       → ((fault : EngineFault) → Due fault → OtherDue fault)
-      → ((place : ℕ) (fault : PartialFault) (other : Option ℕ)
-      → Bad (merging.Partial place fault other) → OtherBad (merging.Partial place fault other))
+      → ((index : ℕ) (fault : PartialFault) (other : Option ℕ)
+      → Bad (merging.Partial index fault other) → OtherBad (merging.Partial index fault other))
       → IsMerged out notes Quote Told Due Bad result
       → IsMerged out notes OtherQuote OtherRun OtherDue OtherBad result
   merged_as Quote OtherQuote Told OtherRun Due OtherDue Bad OtherBad (Ok answer) quote tell due bad
-      is = noted_as out notes Quote OtherQuote Told OtherRun Due OtherDue (Ok answer) quote tell due is
+      is = noted_as out notes Quote OtherQuote Told OtherRun Due OtherDue
+      (Ok answer) quote tell due is
   merged_as Quote OtherQuote Told OtherRun Due OtherDue Bad OtherBad (Err (merging.Engine fault))
       quote tell due bad is =
       noted_as out notes Quote OtherQuote Told OtherRun Due OtherDue (Err fault) quote tell due is
   merged_as Quote OtherQuote Told OtherRun Due OtherDue Bad OtherBad
-      (Err (merging.Partial place fault other)) quote tell due bad is =
-      (bad place fault other is.0, is.1, is.2)
+      (Err (merging.Partial index fault other)) quote tell due bad is =
+      (bad index fault other is.0, is.1, is.2)
 
   -- a refusal, after the note of the quote
-  refused : (IsQuote : List ℕ → Type 0) (IsTold : RunText → Type 0)
-      (IsDue : EngineFault → Type 0) (refusal : Refusal) (P : Type 0)
-      → UnlessMemory why.OutOfMemory refusal P
+  refused : (IsQuote : List ℕ → Type 0) (IsTold : RunText → Type 0) (IsDue : EngineFault → Type 0)
+      (refusal : Refusal) (P : Type 0) → UnlessMemory why.OutOfMemory refusal P
       → (P → (refusal ≡ why.OutOfMemory → ⊥) → IsDue (engine.Refused refusal)) → IsUntouched out
       → HasGainedQuote notes IsQuote
       → IsAnsweredWithNotes out notes IsQuote IsTold IsDue (Err (fault_of_refusal refusal))
@@ -102,7 +94,7 @@ module _ {S N : Type 0} (out : Change S) (notes : Change N) where
       (elim is [ inl e ↦ absurd (cc e) | inr p ↦ due p (λ e. cc) ], same, noted)
   refused IsQuote IsTold IsDue (why.Refused at reason) P is due same noted =
       (elim is [ inl e ↦ absurd (cc e) | inr p ↦ due p (λ e. cc) ], same, noted)
-  refused IsQuote IsTold IsDue (why.BadShow place) P is due same noted =
+  refused IsQuote IsTold IsDue (why.BadShow index) P is due same noted =
       (elim is [ inl e ↦ absurd (cc e) | inr p ↦ due p (λ e. cc) ], same, noted)
 
   -- the same, if the note was written
@@ -118,7 +110,8 @@ module _ {S N : Type 0} (out : Change S) (notes : Change N) where
       elim after [
         | inl noted ↦ rw noted.0
             (refused IsQuote IsTold IsDue refusal P is due same (note, quote, noted.1))
-        | inr part ↦ note_broken out notes IsQuote IsTold IsDue note (Err fault) (ap Err part.0) quote
+        | inr part ↦ note_broken out notes IsQuote IsTold IsDue note (Err fault)
+            (ap Err part.0) quote
             part.1 same
       ]
 
@@ -126,7 +119,7 @@ module _ {S : Type 0} (out : Change S) where
   pub unprinted_same : (fault : PartialsFault) → IsUntouched out → IsUnprinted out fault
   unprinted_same (merging.Engine (engine.Write sent)) same = tt
   unprinted_same (merging.Engine _) same = same
-  unprinted_same (merging.Partial place fault other) same = same
+  unprinted_same (merging.Partial index fault other) same = same
 
   pub unprinted : {A : Type 0} (result : Result A PartialsFault) → IsUntouched out
       → IfErr result (IsUnprinted out)
@@ -143,14 +136,13 @@ noted_unprinted out notes IsQuote IsTold (Err (engine.Write sent)) noted = tt
 noted_unprinted out notes IsQuote IsTold (Err (engine.Refused refusal)) noted = noted.1
 noted_unprinted out notes IsQuote IsTold (Err _) noted = noted.1
 
--- of usable parts, an outcome is only missing because a total leaves its range
-pub only_overflow : (all : List Contents) (is_distinct : Bool) (spans : List (Option Span))
-    → All IsUsable all → (place : ℕ) (fault : PartialFault) (other : Option ℕ)
-    → IsUnmerged all (merging.Partial place fault other)
-    → IsOverlap is_distinct spans (merging.Partial place fault other)
-only_overflow all is_distinct spans usable place (fault.Refused line) other is = absurd (is usable)
-only_overflow all is_distinct spans usable place (fault.Overflow line) other is = tt
-only_overflow all is_distinct spans usable place _ other is = absurd is
+-- usable parts with room have an outcome
+pub none_unmerged : (p : Plan) (all : List Contents) → All IsUsable all → HasRoom p all
+    → (index : ℕ) (fault : PartialFault) (other : Option ℕ)
+    → ¬ IsUnmerged p all (merging.Partial index fault other)
+none_unmerged p all usable room index (fault.Refused line) other is = is usable
+none_unmerged p all usable room index (fault.Overflow line) other is = is room
+none_unmerged p all usable room index _ other is = is
 
 module _ (most : ℕ) (whole : Database) (query : List ℕ) (p : Plan) (meant : IsPlanOf query p)
     (accepted : FitsRows most whole query ↔ IsAcceptedWithin whole most (compiled p))
@@ -162,8 +154,7 @@ module _ (most : ℕ) (whole : Database) (query : List ℕ) (p : Plan) (meant : 
       let both = admitted.0 none in
       accepted.1 (record { admissible = both.0; cheap = both.1 })
 
-  fits_none : FitsRows most whole query
-      → first_refusal (world_of whole) most (compiled p) ≡ None
+  fits_none : FitsRows most whole query → first_refusal (world_of whole) most (compiled p) ≡ None
   fits_none fits =
       let is = accepted.0 fits in
       admitted.1 (is.admissible, is.cheap)
@@ -172,7 +163,7 @@ module _ (most : ℕ) (whole : Database) (query : List ℕ) (p : Plan) (meant : 
   none_viewed why.OutOfMemory e = refl
   none_viewed (why.TooCostly visits) e = absurd (cc e)
   none_viewed (why.Refused at reason) e = absurd (cc e)
-  none_viewed (why.BadShow place) e = absurd (cc e)
+  none_viewed (why.BadShow index) e = absurd (cc e)
 
   pub unfit : (refusal : Refusal)
       → (most < fact_rows whole → first_refusal (world_of whole) most (compiled p)

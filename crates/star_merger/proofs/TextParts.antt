@@ -1,20 +1,12 @@
 -- The parts as texts: their rows, their dimensions, and all parts together.
-use Rattle.std.proofs.Common.{◌≡◌, ◌≢◌, ◌∙◌, ◌≤◌, ℕ, Bool, true, false, List, [], ◌∷◌, ◌++◌, AllPairs, None, ap, append-nil, arith, get_or, length, map, refl, subst, sym}
-use Rattle.std.proofs.lemmas.List.{get_or-map, length-map}
-use Rattle.std.proofs.lemmas.List.Elements.{All-cons, All-head, All-map, All-nil, All-tail}
-use Rattle.std.specs.List.{All}
-use Rattle.star_schema.specs.declared.table.TableId.TheVariants.{Date, Customer, Supplier, Part, Lineorder}
-use Rattle.star_schema.specs.{declared.column.ColumnId.ColumnId, declared.table.TableId.TableId, Bounds.greatest, Bounds.least, Bounds.numbers_of, Columns.bounds_in, Database.Database, Database.TableTexts, Database.rows_in, Loadable.HasDistinctKeys, Loadable.IsLoadable, Loadable.database_of, Loadable.keys_of, Records.records_in, Schema.table_of, Tables.rows_of, Tables.row_of}
+use Rattle.std.{proofs.Common.{◌≡◌, ◌≢◌, ◌∙◌, ◌≤◌, ℕ, Bool, true, false, List, [], ◌∷◌, ◌++◌, AllPairs, None, ap, append-nil, arith, get_or, length, map, refl, subst, sym}, proofs.lemmas.List.{get_or-map, length-map}, proofs.lemmas.List.Elements.{All-cons, All-head, All-map, All-nil, All-tail}, specs.List.All}
+use Rattle.star_schema.specs.{declared.table.TableId.TheVariants.{Date, Customer, Supplier, Part, Lineorder}, declared.column.ColumnId.ColumnId, declared.table.TableId.TableId, Bounds.{greatest, least, numbers_of}, Columns.bounds_in, Database.{Database, TableTexts, rows_in}, Loadable.{HasDistinctKeys, IsLoadable, database_of, keys_of}, Records.records_in, Schema.table_of, Tables.{rows_of, row_of}}
 use Rattle.star_plan.specs.Meaning.{Row}
 use Rattle.star_partial.specs.Contents.{Contents}
-use Rattle.star_merger.specs.Partials.{contents_of}
-use Rattle.star_merger.specs.declared.partial.Partial.{Partial}
+use Rattle.star_merger.specs.{Partials.contents_of, declared.partial.Partial.Partial, Merged.spans_of, Private.Checked.{AreDisjointSpans, HasDimensions}, Private.Shares.{AreShares, Share, contents_of_shares, share_rows, whole_of}, TextShares.{AreDistinct, IsTextShare, TextShare, all_contents, lineorder_parts, whole_texts}}
 use Rattle.star_catalogue.specs.Pieces.{with_lineorder_text}
-use Rattle.star_merge_laws.specs.{Parts.AreDisjoint, Parts.IsLoadablePart, Parts.LineorderPart, Parts.are_disjoint, Parts.whole_text, Parts.with_lineorder, Tables.all_of}
-use Rattle.star_merge_laws.proofs.LoadableParts.{IsBeside, all_second, keys_joined, loadable_joined, pairs_head, pairs_second, pairs_tail, parts_loadable, records_joined, rows_beside, rows_joined}
+use Rattle.star_merge_laws.{specs.Parts.{AreDisjoint, IsLoadablePart, LineorderPart, are_disjoint, whole_text, with_lineorder}, specs.Tables.all_of, proofs.LoadableParts.{IsBeside, all_second, keys_joined, loadable_joined, pairs_head, pairs_second, pairs_tail, parts_loadable, records_joined, rows_beside, rows_joined}}
 use Rattle.star_engine.specs.Partials.{IsPartialOver, span_view}
-use Rattle.star_merger.specs.{Merged.spans_of, Private.Checked.AreDisjointSpans, Private.Checked.HasDimensions, Private.Shares.AreShares, Private.Shares.Share, Private.Shares.contents_of_shares, Private.Shares.share_rows, Private.Shares.whole_of}
-use Rattle.star_merger.specs.TextShares.{AreDistinct, IsTextShare, TextShare, all_contents, lineorder_parts, whole_texts}
 
 abbrev pub row_share : TextShare → Share
 row_share share = record { rows = rows_of Lineorder share.text; contents = share.contents }
@@ -48,7 +40,8 @@ records_counted shares =
 spans_same : (shares : List TextShare)
     → spans_of (all_contents shares) ≡ map (λ part. part.span) (lineorder_parts shares)
 spans_same [] = refl
-spans_same (share ∷ shares) = ap (λ spans. span_view share.contents.span ∷ spans) (spans_same shares)
+spans_same (share ∷ shares) =
+    ap (λ spans. span_view share.contents.span ∷ spans) (spans_same shares)
 
 -- ---- the dimensions
 
@@ -67,7 +60,7 @@ bounds_beside database rows c h =
 
 -- ---- all parts together
 
-all_unmapped : {X Y : Type 0} (P : Y → Type 0) (f : X → Y) (xs : List X) → All P (map f xs)
+pub all_unmapped : {X Y : Type 0} (P : Y → Type 0) (f : X → Y) (xs : List X) → All P (map f xs)
     → All (λ x. P (f x)) xs
 all_unmapped P f xs all = λ k d within.
     subst P (get_or-map f xs k d (f d) within)

@@ -1,21 +1,12 @@
 -- The text of a partial prints its contents.
-use Rattle.std.proofs.Common.{◌≡◌, ◌<◌, ◌^◌, ◌∙◌, ◌++◌, ℕ, zero, suc, ℤ, pos, List, [], ◌∷◌, None, Option, Some, ap, append_assoc, arith, codes, get_or, length, refl, subst, sym}
-use Rattle.std.proofs.lemmas.List.{append_cancel_left}
-use Rattle.std.proofs.lemmas.List.Elements.{All-head, All-tail}
-use Rattle.std.specs.{Char.digit_value, Fmt.decimal, Fmt.signed_decimal, List.All, List.flat_map, List.slice_get, Prelude.IfSome, Prelude.Ok, Prelude.Result}
-use Rattle.hex.specs.Hex.{IsBytes, decode_of, encode_lower, lower_digits}
-use Rattle.hex.proofs.HexLemmas.{decode_of-encode_lower, length-encode_with}
+use Rattle.std.{proofs.Common.{◌≡◌, ◌<◌, ◌^◌, ◌∙◌, ◌++◌, ℕ, zero, suc, ℤ, pos, List, [], ◌∷◌, None, Option, Some, ap, append_assoc, arith, codes, get_or, length, refl, subst, sym}, proofs.lemmas.List.append_cancel_left, proofs.lemmas.List.Elements.{All-head, All-tail}, specs.Char.digit_value, specs.Fmt.{decimal, signed_decimal}, specs.List.{All, flat_map, slice_get}, specs.Prelude.{IfSome, Ok, Result}}
+use Rattle.hex.{specs.Hex.{IsBytes, decode_of, encode_lower, lower_digits}, proofs.HexLemmas.{decode_of-encode_lower, length-encode_with}}
 use Rattle.star_interval.specs.Range.{Range}
-use Rattle.star_schema.specs.{declared.column.ColumnId.ColumnId, declared.column.Kind.Kind, declared.table.TableId.TableId, declared.table.TheConstants.TABLES, Schema.column_name, Schema.columns_of, Schema.kind_of, Schema.place_of, Schema.table_name, Schema.table_of}
-use Rattle.star_schema.specs.declared.table.TableId.TheVariants.{Date, Customer, Supplier, Part, Lineorder}
+use Rattle.star_schema.{specs.declared.column.ColumnId.ColumnId, specs.declared.column.Kind.Kind, specs.declared.table.TableId.TableId, specs.declared.table.TheConstants.TABLES, specs.Schema.{column_name, columns_of, kind_of, position_of, table_name, table_of}, specs.declared.table.TableId.TheVariants.{Date, Customer, Supplier, Part, Lineorder}, proofs.Indexes.at_position}
 use Rattle.star_schema.specs.declared.column.Kind.TheVariants as kind
-use Rattle.star_schema.proofs.Places.{at_place}
 use Rattle.star_program.specs.declared.outcome.Outcome.{Outcome}
-use Rattle.star_report.specs.{Columns.ColumnKind, Columns.HasDigits, Report.report_text}
-use Rattle.star_report.proofs.{Bytes.Lacks, Bytes.split_first, Lines.report_same, Numbers.number_lacks, Numbers.number_same}
-use Rattle.star_partial.specs.{declared.partial.Span.Span, Contents.Contents, Counts.counts_line}
-use Rattle.star_partial.specs.Listing.{bounds_line, column_text, listing_text, table_line, table_text}
-use Rattle.star_partial.specs.Text.{digest_line, partial_text, query_text, rows_line, run_text, span_line}
+use Rattle.star_report.{specs.Columns.{ColumnKind, HasDigits}, specs.Report.report_text, proofs.Bytes.{Lacks, split_first}, proofs.Lines.report_same, proofs.Numbers.{number_lacks, number_same}}
+use Rattle.star_partial.specs.{declared.partial.Span.Span, Contents.Contents, Counts.counts_line, Listing.{bounds_line, column_text, listing_text, table_line, table_text}, Text.{digest_line, partial_text, query_text, rows_line, run_text, span_line}}
 use Rattle.star_merger.specs.Spelled.{IsSpelled, IsSpelledRun, IsSpelledSpan}
 
 -- ---- numbers before a byte that is no digit
@@ -76,8 +67,7 @@ count_before b apart m n xs ys us vs h k e =
 
 -- ---- the digest
 
-as_long : (xs ys us vs : List ℕ) → length xs ≡ length ys → xs ++ us ≡ ys ++ vs
-    → AreSame xs ys us vs
+as_long : (xs ys us vs : List ℕ) → length xs ≡ length ys → xs ++ us ≡ ys ++ vs → AreSame xs ys us vs
 as_long [] [] us vs l e = record { first = refl; rest = e }
 as_long [] (y ∷ ys) us vs l e = absurd (omega (arith, l))
 as_long (x ∷ xs) [] us vs l e = absurd (omega (arith, l))
@@ -130,7 +120,8 @@ unfolding span_line
 no_span s us vs h e =
     let inner = word (codes "keys ") (codes "none\n") _ us vs e in
     not_begun 110 (signed_decimal s.low.order) _ _
-    (number_lacks 110 s.low.order h.low.order (λ h. absurd (omega arith)) (λ h. absurd (omega arith)))
+    (number_lacks 110 s.low.order h.low.order (λ h. absurd (omega arith))
+    (λ h. absurd (omega arith)))
     (λ h. absurd (omega arith)) (inner ∙ append_assoc (signed_decimal s.low.order) _ vs)
 
 span_cut : (s t : Option Span) (us vs : List ℕ) → IfSome s IsSpelledSpan → IfSome t IsSpelledSpan
@@ -176,7 +167,8 @@ module _ (bounds others : ColumnId → Range)
       → AreSame (bounds c) (others c) us vs
   unfolding bounds_line
   column_cut c kind.Number us vs is e =
-      let least = number_before 46 at_dot (bounds c).low (others c).low _ _ us vs (low c).0 (low c).1
+      let least = number_before 46 at_dot (bounds c).low (others c).low _ _ us vs (low c).0
+      (low c).1
       (word (codes " ") _ _ us vs (word (column_name c) _ _ us vs e)) in
       let most = number_before 10 at_end (bounds c).high (others c).high [] [] us vs (high c).0
       (high c).1 (word (codes ".") _ _ us vs least.rest) in
@@ -197,7 +189,8 @@ module _ (bounds others : ColumnId → Range)
       → columns_text bounds cs ++ us ≡ columns_text others cs ++ vs → AreColumns cs us vs
   columns_cut [] us vs e = record { each = λ c n at. cc; rest = e }
   columns_cut (c ∷ cs) us vs e =
-      let here = column_cut c (kind_of c) (columns_text bounds cs ++ us) (columns_text others cs ++ vs)
+      let here = column_cut c (kind_of c) (columns_text bounds cs ++ us)
+      (columns_text others cs ++ vs)
       refl
       (sym (append_assoc (column_text bounds c (kind_of c)) (columns_text bounds cs) us) ∙ e
       ∙ append_assoc (column_text others c (kind_of c)) (columns_text others cs) vs) in
@@ -211,12 +204,12 @@ module _ (bounds others : ColumnId → Range)
           subst (λ d. bounds d ≡ others d) (let head : c ≡ d = cc in head) same
       by same later d (suc n) at = later d n at
 
-  module _ (sizes counts : TableId → ℕ) (few : (t : TableId) → (sizes t < 10 ^ 64) × (counts t < 10 ^ 64))
+  module _ (sizes counts : TableId → ℕ)
+      (few : (t : TableId) → (sizes t < 10 ^ 64) × (counts t < 10 ^ 64))
     where
       record IsTold (t : TableId) : Type 0 where
         size : sizes t ≡ counts t
-        columns : (c : ColumnId) (n : ℕ) → slice_get (columns_of t) n ≡ Some c
-            → bounds c ≡ others c
+        columns : (c : ColumnId) (n : ℕ) → slice_get (columns_of t) n ≡ Some c → bounds c ≡ others c
 
       record AreTables (ts : List TableId) (us vs : List ℕ) : Type 0 where
         each : (t : TableId) (n : ℕ) → slice_get ts n ≡ Some t → IsTold t
@@ -281,7 +274,7 @@ module _ (bounds others : ColumnId → Range)
           let told = table_told us vs are in
           record {
             sizes_same = λ i t. (told t).size i;
-            bounds_same = λ i c. (told (table_of c)).columns c (place_of c) (at_place c) i;
+            bounds_same = λ i c. (told (table_of c)).columns c (position_of c) (at_position c) i;
             rest = are.rest;
           }
 
@@ -294,14 +287,17 @@ module _ (names : List (List ℕ)) (kinds : List ColumnKind) where
   outcome_same s t h k e =
       let us = rows_line (length s.rows) ++ report_text s.names s.rows in
       let vs = rows_line (length t.rows) ++ report_text t.names t.rows in
-      let visits = count_before 32 at_space s.visits t.visits _ _ us vs h.visits k.visits
+      let visits = count_before 32 at_space s.visits t.visits _ _ us vs h.counts.visits
+      k.counts.visits
       (word (codes "visits ") _ _ us vs e) in
-      let lookups = count_before 32 at_space s.lookups t.lookups _ _ us vs h.lookups k.lookups
+      let lookups = count_before 32 at_space s.lookups t.lookups _ _ us vs h.counts.lookups
+      k.counts.lookups
       (word (codes "lookups ") _ _ us vs visits.rest) in
-      let updates = count_before 10 at_end s.updates t.updates [] [] us vs h.updates k.updates
+      let updates = count_before 10 at_end s.updates t.updates [] [] us vs h.counts.updates
+      k.counts.updates
       (word (codes "updates ") _ _ us vs lookups.rest) in
       let rows = count_before 10 at_end (length s.rows) (length t.rows) [] []
-      (report_text s.names s.rows) (report_text t.names t.rows) h.rows k.rows
+      (report_text s.names s.rows) (report_text t.names t.rows) h.counts.rows k.counts.rows
       (word (codes "rows ") _ _ (report_text s.names s.rows) (report_text t.names t.rows) updates.rest) in
       let cells = report_same names kinds s.rows t.rows h.cells k.cells
       (ap (λ names. report_text names s.rows) (sym h.named) ∙ rows.rest
@@ -316,7 +312,8 @@ module _ (names : List (List ℕ)) (kinds : List ColumnKind) where
 
   not_run : (t : Outcome) → run_text None ≡ run_text (Some t) → ⊥
   unfolding run_text counts_line
-  not_run t e = let first : 114 ≡ 118 = ap (λ text. get_or text 0 0) e in absurd (omega (arith, first))
+  not_run t e = let first : 114
+      ≡ 118 = ap (λ text. get_or text 0 0) e in absurd (omega (arith, first))
 
   run_same : (s t : Option Outcome) → IfSome s (IsSpelledRun names kinds)
       → IfSome t (IsSpelledRun names kinds) → run_text s ≡ run_text t → s ≡ t
@@ -332,11 +329,14 @@ pub contents_same : (query : List ℕ) (names : List (List ℕ)) (kinds : List C
     → partial_text query contents ≡ partial_text query other → contents ≡ other
 unfolding partial_text
 contents_same query names kinds x y h k e =
-    let digest = digest_cut x.digest y.digest _ _ (are_bytes x.digest h.bytes) (are_bytes y.digest k.bytes) h.digest k.digest
+    let digest = digest_cut x.digest y.digest _ _ (are_bytes x.digest h.bytes)
+    (are_bytes y.digest k.bytes) h.digest k.digest
     (append_cancel_left (query_text query) _ _ e) in
     let span = span_cut x.span y.span _ _ h.span k.span digest.rest in
-    let listing = listing_cut x.bounds y.bounds (λ c. ((h.bounds c).low, (k.bounds c).low)) (λ c. ((h.bounds c).high, (k.bounds c).high))
-    (λ c is. (h.bounds c).text is ∙ sym ((k.bounds c).text is)) x.sizes y.sizes (λ t. (h.sizes t, k.sizes t))
+    let listing = listing_cut x.bounds y.bounds (λ c. ((h.bounds c).low, (k.bounds c).low))
+    (λ c. ((h.bounds c).high, (k.bounds c).high))
+    (λ c is. (h.bounds c).text is ∙ sym ((k.bounds c).text is)) x.sizes y.sizes
+    (λ t. (h.sizes t, k.sizes t))
     (run_text x.run) (run_text y.run) span.rest in
     let run = run_same names kinds x.run y.run h.run k.run listing.rest in
     λ i. record {

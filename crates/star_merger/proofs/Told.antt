@@ -1,29 +1,15 @@
 -- What is written and what is due over all parts.
-use Rattle.std.proofs.Common.{◌≡◌, ◌∙◌, ◌<◌, ℕ, List, Some, ◌∷◌, ap, arith, length, subst, sym}
-use Rattle.std.specs.List.{All}
-use Rattle.star_schema.specs.declared.table.TableId.TheVariants.{Lineorder}
-use Rattle.star_schema.specs.{Database.Database, Database.TableTexts, Loadable.IsLoadable, Loadable.database_of}
-use Rattle.star_catalogue.specs.declared.fault.LoadFault.{LoadFault}
-use Rattle.star_catalogue.specs.declared.fault.LoadFault.TheVariants.{TooManyRows}
+use Rattle.std.{proofs.Common.{◌≡◌, ◌∙◌, ◌<◌, ℕ, List, Some, ◌∷◌, ap, arith, length, subst, sym}, specs.List.All, proofs.lemmas.List.Sorted.{All-permutation, IsPermutation-map, IsPermutation-sym, length_permutation}, specs.List.Sorted.IsPermutation}
+use Rattle.star_schema.specs.{declared.table.TableId.TheVariants.Lineorder, Database.{Database, TableTexts}, Loadable.{IsLoadable, database_of}, declared.column.ColumnId.ColumnId, declared.table.TableId.TableId}
+use Rattle.star_catalogue.specs.declared.fault.LoadFault.{LoadFault, TheVariants.TooManyRows}
 use Rattle.star_plan.specs.Meaning.{Plan}
 use Rattle.star_verify.specs.declared.refusal.Refusal.{Refusal}
 use Rattle.star_partial.specs.Contents.{Contents}
-use Rattle.star_merge_laws.specs.Tables.{all_of}
-use Rattle.star_merge_laws.proofs.Many.{too_many}
+use Rattle.star_merge_laws.{specs.Tables.all_of, proofs.Many.too_many, specs.Parts.AreDisjoint}
 use Rattle.star_engine.specs.{Loads.AreLoadedRows, Notes.quote_line, Queries.FitsRows, Queries.IsPlanOf, Queries.IsQueryQuote, Queries.IsQueryRefusal, Queries.IsQueryRun, Queries.IsQueryRunError, Queries.IsQueryRunOver, Queries.fact_rows, WithNotes.RunText}
 use Rattle.star_engine.specs.declared.fault.EngineFault.TheVariants as engine
-use Rattle.star_merger.specs.{Private.Outcomes.IsMergedOutcome, Private.Shares.AreShares, Private.Shares.Share, Private.Shares.contents_of_shares, Private.Shares.share_rows, Private.Shares.whole_of, Private.Written.IsMergedTelling, Private.Written.run_text_of}
-use Rattle.star_merger.specs.TextShares.{IsTextShare, TextShare, all_contents, whole_texts}
-use Rattle.std.proofs.lemmas.List.Sorted.{All-permutation, IsPermutation-map, IsPermutation-sym, length_permutation}
-use Rattle.std.specs.List.Sorted.{IsPermutation}
+use Rattle.star_merger.{specs.Private.Outcomes.{HasRoom, IsMergedOutcome}, specs.Private.Shares.{AreShares, Share, contents_of_shares, share_rows, whole_of}, specs.Private.Written.{IsMergedTelling, run_text_of}, specs.TextShares.{IsTextShare, TextShare, all_contents, whole_texts, lineorder_parts}, specs.Private.Shown.{HasFacts, IsUsable}, proofs.AnyOrder.{disjoint_moved, facts_moved, outcome_reordered, room_reordered, rows_moved}, proofs.TextParts.{row_share, contents_same, loadable_parts, own_shares, records_counted, row_shares, whole_same}, proofs.Results.loaded_rows, proofs.Whole.told}
 use Rattle.star_interval.specs.Range.{Range}
-use Rattle.star_schema.specs.declared.{column.ColumnId.ColumnId, table.TableId.TableId}
-use Rattle.star_merge_laws.specs.Parts.{AreDisjoint}
-use Rattle.star_merger.specs.Private.Shown.{HasFacts, IsUsable}
-use Rattle.star_merger.specs.TextShares.{lineorder_parts}
-use Rattle.star_merger.proofs.AnyOrder.{disjoint_moved, facts_moved, outcome_reordered, rows_moved}
-use Rattle.star_merger.proofs.TextParts.{row_share}
-use Rattle.star_merger.proofs.{Results.loaded_rows, TextParts.contents_same, TextParts.loadable_parts, TextParts.own_shares, TextParts.records_counted, TextParts.row_shares, TextParts.whole_same, Whole.told}
 
 told_over : (most visits count : ℕ) (note : List ℕ) (database : Database) (query : List ℕ)
     (p : Plan) (meant : IsPlanOf query p) (shares : List Share) (all : List Contents)
@@ -84,6 +70,11 @@ module _ (rows visits : ℕ) (texts : TableTexts) (query hash : List ℕ) (xs ys
   pub usable_moved : All IsUsable (all_contents ys) → All IsUsable (all_contents xs)
   usable_moved =
       All-permutation IsUsable (all_contents ys) (all_contents xs)
+      (IsPermutation-sym (all_contents xs) (all_contents ys) contents_moved)
+
+  pub room_moved : (p : Plan) → HasRoom p (all_contents ys) → HasRoom p (all_contents xs)
+  room_moved p =
+      room_reordered p (all_contents ys) (all_contents xs)
       (IsPermutation-sym (all_contents xs) (all_contents ys) contents_moved)
 
 module _ (rows visits : ℕ) (texts : TableTexts) (query hash : List ℕ) (share : TextShare)

@@ -1,16 +1,10 @@
 -- If the query fits all parts, only a part without rows is refused.
-use Rattle.std.proofs.Common.{◌≡◌, ◌∙◌, ◌≤◌, ℕ, zero, suc, List, [], ◌∷◌, None, Option, Some, arith, length, refl}
-use Rattle.std.proofs.lemmas.List.{length-append}
-use Rattle.std.proofs.lemmas.List.Elements.{All-cons, All-head, All-nil, All-tail}
-use Rattle.std.specs.{List.All, Prelude.MatchOption}
+use Rattle.std.{proofs.Common.{◌≡◌, ◌∙◌, ◌≤◌, ℕ, zero, suc, List, [], ◌∷◌, None, Option, Some, arith, length, refl}, proofs.lemmas.List.length-append, proofs.lemmas.List.Elements.{All-cons, All-head, All-nil, All-tail}, specs.List.All, specs.Prelude.MatchOption}
 use Rattle.star_schema.specs.{declared.table.TableId.TheVariants.Lineorder, Database.Database}
 use Rattle.star_plan.specs.Meaning.{Plan, Row}
-use Rattle.star_query_meaning.specs.Fitting.{PlanFitsTables}
-use Rattle.star_query_meaning.proofs.OwnFits.{own_fits}
-use Rattle.star_merge_laws.specs.{Parts.with_lineorder, Tables.all_of, Tables.tables_with}
-use Rattle.star_merge_laws.proofs.Fits.{first_fits, second_fits}
-use Rattle.star_engine.specs.{Partials.IsPartialOver, Queries.FitsRows, Queries.IsPlanOf}
-use Rattle.star_engine.proofs.FittingTexts.{text_fits}
+use Rattle.star_query_meaning.{specs.Fitting.PlanFitsTables, proofs.OwnFits.own_fits}
+use Rattle.star_merge_laws.{specs.Parts.with_lineorder, specs.Tables.{all_of, tables_with}, proofs.Fits.{first_fits, second_fits}}
+use Rattle.star_engine.{specs.Partials.IsPartialOver, specs.Queries.{FitsRows, IsPlanOf}, proofs.FittingTexts.text_fits}
 use Rattle.star_merger.specs.{Private.Shares.AreShares, Private.Shares.Share, Private.Shares.contents_of_shares, Private.Shares.share_rows, Private.Shares.whole_of, Private.Shown.IsUsable}
 
 none_or_some : (n : ℕ) → (1 ≤ n → ⊥) → n ≡ 0

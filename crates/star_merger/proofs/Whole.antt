@@ -1,25 +1,16 @@
 -- What the partials of all parts say of the tables with all parts.
-use Rattle.std.proofs.Common.{◌≡◌, ◌∙◌, ◌+◌, ℕ, List, [], ◌∷◌, ◌++◌, Option, Some, None, ap, append-nil, arith, length, map, refl, subst, sym}
-use Rattle.std.proofs.lemmas.List.{Concat.flat_map-append, length-append, map-append, Sums.sum_by-append, Sorted.length_permutation}
-use Rattle.std.proofs.lemmas.List.Elements.{All-append, All-cons, All-head, All-nil, All-tail}
-use Rattle.std.specs.{List.All, List.flat_map, List.sum_by, Prelude.IfSome, Prelude.MatchOption}
-use Rattle.star_query.proofs.Verdicts.{one_meaning}
-use Rattle.star_query.specs.Tree.{Tree}
+use Rattle.std.{proofs.Common.{◌≡◌, ◌∙◌, ◌+◌, ℕ, List, [], ◌∷◌, ◌++◌, Option, Some, None, ap, append-nil, arith, length, map, refl, subst, sym}, proofs.lemmas.List.Concat.flat_map-append, proofs.lemmas.List.{length-append, map-append}, proofs.lemmas.List.Sums.sum_by-append, proofs.lemmas.List.Sorted.length_permutation, proofs.lemmas.List.Elements.{All-append, All-cons, All-head, All-nil, All-tail}, specs.List.{All, flat_map, sum_by}, specs.Prelude.{IfSome, MatchOption}}
+use Rattle.star_query.{proofs.Verdicts.one_meaning, specs.Tree.Tree}
 use Rattle.star_schema.specs.{declared.table.TableId.TheVariants.Lineorder, Database.Database, Database.rows_in, Groups.GroupRow, Tables.Value}
 use Rattle.star_plan.specs.{Meaning.Plan, Meaning.Row, Meaning.aggregate_of, Meaning.joined_rows, Meaning.plan_rows, Resolved.IsResolved, Sound.IsSoundPlan}
 use Rattle.star_program.specs.{declared.outcome.Cell.Cell, declared.outcome.Outcome.Outcome}
 use Rattle.star_report.specs.Report.{report_text}
-use Rattle.star_query_meaning.specs.{Answers.IsPlanAnswer, Answers.shown_name, Rows.selected}
-use Rattle.star_query_meaning.proofs.OwnWords.{own_answer, selected_reordered}
+use Rattle.star_query_meaning.{specs.Answers.{IsPlanAnswer, shown_name}, specs.Rows.selected, proofs.OwnWords.{own_answer, selected_reordered}}
 use Rattle.star_compile_laws.specs.Counts.{lookups_of, turn_lookups}
-use Rattle.star_merge_laws.specs.{Parts.with_lineorder, Plain.plain_plan, Tables.all_of, Tables.tables_with}
-use Rattle.star_merge_laws.proofs.Rows.{joined_together, selected_together}
-use Rattle.star_merge.specs.{Cells.group_of, Merged.AreOfShape, Merged.ArePlainReports, Merged.IsMergedRows, Merged.PlainReport, Merged.groups_shown}
-use Rattle.star_merge.proofs.PlainReports.{merged_answer, of_shape}
-use Rattle.star_engine.specs.{Notes.counts_line, Notes.quote_line, Partials.IsPartialOver, Partials.IsPlainOutcome, Queries.FitsRows, Queries.IsPlanOf, Queries.IsQueryRunOver}
-use Rattle.star_engine.proofs.PlansOfQueries.{plan_sound}
-use Rattle.star_merger.specs.{Private.Outcomes.IsMergedOutcome, Private.Outcomes.all_shown, Private.Outcomes.groups_of, Private.Shown.HasOwnFacts, Private.Shown.IsUsable, Private.Shown.counted, Private.Shown.lookups_in, Private.Shown.rows_shown, Private.Shown.updates_in}
-use Rattle.star_merger.specs.Private.Shares.{AreShares, Share, contents_of_shares, share_rows, whole_of}
+use Rattle.star_merge_laws.{specs.Parts.with_lineorder, specs.Plain.plain_plan, specs.Tables.{all_of, tables_with}, proofs.Rows.{joined_together, selected_together}}
+use Rattle.star_merge.{specs.Cells.group_of, specs.Merged.{AreOfShape, ArePlainReports, IsMergedRows, PlainReport, groups_shown}, proofs.PlainReports.{merged_answer, of_shape}}
+use Rattle.star_engine.{specs.Notes.{counts_line, quote_line}, specs.Partials.{IsPartialOver, IsPlainOutcome}, specs.Queries.{FitsRows, IsPlanOf, IsQueryRunOver}, proofs.PlansOfQueries.plan_sound}
+use Rattle.star_merger.specs.Private.{Outcomes.{IsMergedOutcome, all_shown, groups_of}, Shown.{HasOwnFacts, IsUsable, counted, lookups_in, rows_shown, updates_in}, Shares.{AreShares, Share, contents_of_shares, share_rows, whole_of}}
 
 -- ---- a text means one plan
 
@@ -198,7 +189,7 @@ module _ (most : ℕ) (database : Database) (query : List ℕ) (p : Plan) (meant
     abbrev IsOwn : Share → Type 0
     IsOwn share = IsPartialOver most (with_lineorder database share.rows) query share.contents
 
-    sound : IsSoundPlan p
+    pub sound : IsSoundPlan p
     sound = plan_sound query p meant
 
     outcome_over : (rows : List Row) (o : Plan) (own : IsPlanOf query o) (outcome : Outcome)
@@ -233,7 +224,7 @@ module _ (most : ℕ) (database : Database) (query : List ℕ) (p : Plan) (meant
         (run_over share.rows own.p own.meant share.contents.run
         (one_plan query own.p p own.meant meant) own.run)
 
-    shares_shown : (shares : List Share) → AreShares most database query shares
+    pub shares_shown : (shares : List Share) → AreShares most database query shares
         → All IsUsable (contents_of_shares shares)
         → All (λ share. IsShown database p sound share.rows share.contents.run) shares
     shares_shown [] are usable =

@@ -1,7 +1,6 @@
 -- The printed form of faults of partials.
 use Rattle.std.specs.Prelude.{◌++◌, ℕ, List, codes, decimal}
-use Rattle.star_merger.specs.declared.fault.PartialFault.{PartialFault}
-use Rattle.star_merger.specs.declared.fault.PartialFault.TheVariants.{OutOfMemory, BadHeader, OtherQuery, OtherDimensions, BadLine, BadOrder, Overlap, Refused, Overflow}
+use Rattle.star_merger.specs.declared.fault.PartialFault.{PartialFault, TheVariants.{OutOfMemory, BadHeader, OtherQuery, OtherDimensions, BadLine, BadOrder, Overlap, Refused, Overflow}}
 
 unfoldable pub partial_fault_text : PartialFault → List ℕ
 partial_fault_text OutOfMemory = codes "memory"

@@ -4,3 +4,4 @@ pub mod Shown
 pub mod Checked
 pub mod Outcomes
 pub mod Written
+pub mod Digits

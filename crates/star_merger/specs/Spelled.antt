@@ -14,15 +14,19 @@ pub record IsSpelledSpan (span : Span) : Type 0 where
   pub low : IsSpelledKey span.low
   pub high : IsSpelledKey span.high
 
--- a report with these columns; the numbers have at most 64 digits
-pub record IsSpelledRun (names : List (List ℕ)) (kinds : List ColumnKind) (outcome : Outcome)
-    : Type 0 where
-  pub named : outcome.names ≡ names
-  pub cells : AreRowsOf kinds outcome.rows
+-- numbers of at most 64 digits
+pub record HasCounts (outcome : Outcome) : Type 0 where
   pub rows : length outcome.rows < 10 ^ 64
   pub visits : outcome.visits < 10 ^ 64
   pub lookups : outcome.lookups < 10 ^ 64
   pub updates : outcome.updates < 10 ^ 64
+
+-- a report with these columns, whose numbers have at most 64 digits
+pub record IsSpelledRun (names : List (List ℕ)) (kinds : List ColumnKind) (outcome : Outcome)
+    : Type 0 where
+  pub named : outcome.names ≡ names
+  pub cells : AreRowsOf kinds outcome.rows
+  pub counts : HasCounts outcome
 
 -- a text column has the bounds 0 and 0
 pub record HasBounds (column : ColumnId) (bounds : Range) : Type 0 where

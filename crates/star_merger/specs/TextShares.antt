@@ -1,7 +1,6 @@
 -- The parts of lineorder as texts, with the partials of a query over them.
 use Rattle.std.specs.Prelude.{◌≡◌, ℕ, List, map}
-use Rattle.star_schema.specs.declared.table.TableId.TheVariants.{Lineorder}
-use Rattle.star_schema.specs.{Database.TableTexts, Loadable.HasDistinctKeys, Loadable.IsLoadable, Loadable.database_of, Tables.rows_of}
+use Rattle.star_schema.specs.{declared.table.TableId.TheVariants.Lineorder, Database.TableTexts, Loadable.{HasDistinctKeys, IsLoadable, database_of}, Tables.rows_of}
 use Rattle.star_partial.specs.Contents.{Contents}
 use Rattle.star_catalogue.specs.Pieces.{with_lineorder_text}
 use Rattle.star_merge_laws.specs.Parts.{LineorderPart, whole_text}

@@ -1,7 +1,11 @@
 // The columns of the reports of a query's partials.
 
+ghost use Rattle.std.specs.Prelude.{◌≡◌, ◌++◌, IfOk, OnOk, map};
+ghost use Rattle.star_plan.specs.Views.{names_view, plan_view};
+ghost use Rattle.star_merger.specs.Columns.{key_column, plan_columns, total_column};
+
 use star_partial::ColumnKind;
-use star_plan::PlanTree;
+use star_plan::{Aggregate, PlanTree};
 use star_program::{Items, Name};
 use star_schema::{ColumnId, is_text, name_of};
 use std::alloc::{AllocError, Global};
@@ -14,7 +18,9 @@ pub(crate) struct PartialColumn {
 }
 
 // Returns the column of a key.
-fn key_column(alloc: Global, column: ColumnId) -> Result<PartialColumn, AllocError> {
+fn key_column(alloc: Global, column: ColumnId) -> Result<PartialColumn, AllocError>
+    ensures { IfOk result (λ key. key ≡ key_column column) }
+{
     let kind = if is_text(column) {
         ColumnKind::TextKey
     } else {
@@ -31,22 +37,45 @@ fn push_keys(
     alloc: Global,
     keys: &[ColumnId],
     columns: &mut Vec<PartialColumn>,
-) -> Result<(), AllocError> {
+) -> Result<(), AllocError>
+    ensures { OnOk result (columns.new.items ≡ columns.old.items ++ map key_column keys.now) }
+{
     for key in keys {
         columns.push(key_column(alloc, *key)?)?;
     }
     Ok(())
 }
 
+// Returns the column of an aggregate.
+fn total_column(alloc: Global, aggregate: &Aggregate) -> Result<PartialColumn, AllocError>
+    ensures { IfOk result (λ total. total ≡ total_column aggregate.now.name.items) }
+{
+    Ok(PartialColumn {
+        name: Items::from_vec(aggregate.name.to_vec(alloc)?),
+        kind: ColumnKind::Total,
+    })
+}
+
+fn push_aggregates(
+    alloc: Global,
+    aggregates: &[Aggregate],
+    columns: &mut Vec<PartialColumn>,
+) -> Result<(), AllocError>
+    ensures { OnOk result
+        (columns.new.items ≡ columns.old.items ++ map total_column (names_view aggregates.now)) }
+{
+    for aggregate in aggregates {
+        columns.push(total_column(alloc, aggregate)?)?;
+    }
+    Ok(())
+}
+
 /// Returns the columns of the reports of a query's partials: all keys, and then all aggregates.
-pub(crate) fn columns_of(alloc: Global, tree: &PlanTree) -> Result<Vec<PartialColumn>, AllocError> {
+pub(crate) fn columns_of(alloc: Global, tree: &PlanTree) -> Result<Vec<PartialColumn>, AllocError>
+    ensures { IfOk result (λ columns. columns.items ≡ plan_columns (plan_view tree.now)) }
+{
     let mut columns = Vec::new(alloc);
     push_keys(alloc, &tree.keys, &mut columns)?;
-    for aggregate in &tree.aggregates {
-        columns.push(PartialColumn {
-            name: Items::from_vec(aggregate.name.clone()?),
-            kind: ColumnKind::Total,
-        })?;
-    }
+    push_aggregates(alloc, &tree.aggregates, &mut columns)?;
     Ok(columns)
 }

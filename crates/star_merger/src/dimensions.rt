@@ -4,8 +4,7 @@ ghost use Rattle.std.specs.Prelude.{◌≡◌, All, ℕ, List, None, true};
 ghost use Rattle.star_schema.specs.Database.{Database};
 ghost use Rattle.star_interval.specs.Interval.{range_of};
 ghost use Rattle.star_partial.specs.{Contents.bounds_at};
-ghost use Rattle.star_merger.specs.Partials.{contents_of};
-ghost use Rattle.star_merger.specs.Private.Checked.{HasDimensions};
+ghost use Rattle.star_merger.specs.{Partials.contents_of, Private.Checked.HasDimensions};
 
 use crate::partial::Partial;
 use star_interval::Interval;
@@ -91,15 +90,15 @@ fn have_equal_dimensions(a: &Partial, b: &Partial) -> bool
     have_equal_bounds(a, b)
 }
 
-/// Returns the place of the first partial whose dimensions are not those of the first.
+/// Returns the position of the first partial whose dimensions are not those of the first.
 pub(crate) fn other_dimensions(partials: &[Partial]) -> Option<usize>
     ensures { (hash : List ℕ) (database : Database)
         → All (λ partial. HasDimensions hash database (contents_of partial)) partials.now
         → result ≡ None }
 {
-    for place in 0..partials.len() {
-        if !have_equal_dimensions(&partials[0], &partials[place]) {
-            return Some(place);
+    for index in 0..partials.len() {
+        if !have_equal_dimensions(&partials[0], &partials[index]) {
+            return Some(index);
         }
     }
     None

@@ -5,9 +5,7 @@ ghost use Rattle.star_schema.specs.{Database.Database, Sizes.size_of};
 ghost use Rattle.star_plan.specs.Meaning.{Row};
 ghost use Rattle.star_partial.specs.Contents.{bounds_at};
 ghost use Rattle.star_merge_laws.specs.Parts.{with_lineorder};
-ghost use Rattle.star_merger.specs.{Merged.spans_of, Private.Checked.AreChecked, Private.Checked.AreFactsIf, Private.Checked.AreFactsWithin, Private.Checked.HasDimensions, Private.Checked.IsUnchecked};
-ghost use Rattle.star_merger.specs.{Private.Shares.Share, Private.Shares.contents_of_shares, Private.Shares.whole_of, Private.Shown.HasFacts, Private.Shown.HasOwnFacts};
-ghost use Rattle.star_merger.specs.Partials.{contents_of};
+ghost use Rattle.star_merger.specs.{Merged.spans_of, Private.Checked.{AreChecked, AreFactsIf, AreFactsWithin, HasDimensions, IsUnchecked}, Private.Shares.{Share, contents_of_shares, whole_of}, Private.Shown.{HasFacts, HasOwnFacts}, Partials.contents_of};
 
 use crate::dimensions::other_dimensions;
 use crate::fault::{PartialFault, PartialsFault, fault_at};
@@ -26,8 +24,7 @@ fn joined(partial: &Partial, more: &Facts) -> Option<Facts>
         → HasFacts (with_lineorder database rows) (size_of partial.now.sizes)
         (bounds_at partial.now.bounds)
         → HasFacts (with_lineorder database others) (size_of more.now.sizes)
-        (bounds_at more.now.bounds)
-        → AreFactsIf (with_lineorder database (rows ++ others)) result }
+        (bounds_at more.now.bounds) → AreFactsIf (with_lineorder database (rows ++ others)) result }
 {
     facts_are_made_of_those_of_parts();
     let rows = partial.sizes.lineorder.checked_add(more.sizes.lineorder)?;
@@ -91,15 +88,14 @@ pub(crate) fn checked_facts(
         → map contents_of partials.now ≡ contents_of_shares (share ∷ shares)
         → All (HasOwnFacts database) (share ∷ shares)
         → All (λ partial. HasDimensions hash database (contents_of partial)) partials.now
-        → MatchResult result
-        (AreChecked limits.rows (whole_of database (share ∷ shares)) is_distinct
-        (spans_of (map contents_of partials.now)))
+        → MatchResult result (AreChecked limits.rows
+        (whole_of database (share ∷ shares)) is_distinct (spans_of (map contents_of partials.now)))
         (IsUnchecked limits.rows (whole_of database (share ∷ shares)) is_distinct
         (spans_of (map contents_of partials.now))) }
 {
     let line = dimensions_line(query);
-    if let Some(place) = other_dimensions(partials) {
-        return Err(fault_at(place, PartialFault::OtherDimensions { line }));
+    if let Some(index) = other_dimensions(partials) {
+        return Err(fault_at(index, PartialFault::OtherDimensions { line }));
     }
     let Some(facts) = facts_within(partials, limits) else {
         return Err(PartialsFault::Engine(EngineFault::Load(LoadFault::TooManyRows {

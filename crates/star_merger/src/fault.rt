@@ -59,13 +59,13 @@ impl fmt::Display for PartialFault {
     }
 }
 
-/// Why partials were not merged: an error of the engine, or a fault of one of them, by its place
-/// from 0. The place of another partial is given if two overlap.
+/// Why partials were not merged: an error of the engine, or a fault of one of them, by its position
+/// from 0. The position of another partial is given if two overlap.
 #[derive(Drop)]
 pub enum PartialsFault {
     Engine(EngineFault),
     Partial {
-        place: usize,
+        index: usize,
         fault: PartialFault,
         other: Option<usize>,
     },
@@ -95,12 +95,12 @@ impl<T: Drop> From<AllocFailed<T>> for PartialsFault {
     }
 }
 
-/// Returns the fault of the partial at a place.
-pub(crate) fn fault_at(place: usize, fault: PartialFault) -> PartialsFault
-    ensures { result ≡ Partial place fault None }
+/// Returns the fault of the partial at a position.
+pub(crate) fn fault_at(index: usize, fault: PartialFault) -> PartialsFault
+    ensures { result ≡ Partial index fault None }
 {
     PartialsFault::Partial {
-        place,
+        index,
         fault,
         other: None,
     }

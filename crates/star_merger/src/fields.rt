@@ -35,7 +35,7 @@ pub(crate) struct Fields<'a> {
 // Returns the bytes before the next `end` and those after it, or all and none.
 fn cut(text: &[u8], end: u8) -> (&[u8], &[u8]) {
     match text.iter().position(|byte| *byte == end) {
-        Some(place) => (&text[..place], &text[place + 1..]),
+        Some(index) => (&text[..index], &text[index + 1..]),
         None => (text, &[]),
     }
 }

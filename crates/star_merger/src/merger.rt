@@ -1,10 +1,10 @@
 // A query whose partials are merged.
 
 ghost use Rattle.std.specs.Prelude.{◌≡◌, ℕ, IfOk, List, MatchResult};
+ghost use Rattle.star_schema.specs.Database.{Database};
 ghost use Rattle.star_partial.specs.{Contents.Contents, Text.partial_text};
-ghost use Rattle.star_merger.specs.Partials.{contents_of};
+ghost use Rattle.star_merger.specs.{Partials.contents_of, Columns.{column_kinds, column_names}, Mergers.IsMergerOf, Spelled.IsSpelled, Texts.IsPartialText};
 ghost use Rattle.star_engine.specs.{Answered.OrMemory, Queries.IsQueryError};
-ghost use Rattle.star_merger.specs.{Columns.column_kinds, Columns.column_names, Mergers.IsMergerOf, Spelled.IsSpelled};
 
 use crate::columns::{PartialColumn, columns_of};
 use crate::fault::PartialFault;
@@ -62,6 +62,9 @@ impl Merger {
             → IsSpelled (column_names self.now.columns.items) (column_kinds self.now.columns.items)
             written → text.now ≡ partial_text query written
             → IfOk result (λ partial. contents_of partial ≡ written) }
+        ensures written { (most : ℕ) (database : Database) (query : List ℕ)
+            (is : IsPartialText most database query text.now) → IsMergerOf query self.now
+            → IfOk result (λ partial. contents_of partial ≡ is.contents) }
     {
         read_partial(alloc, &self.query, &self.columns, text)
     }

@@ -1,13 +1,9 @@
 // The report of a query over all parts, from its partials.
 
-ghost use Rattle.std.specs.Prelude.{◌≡◌, ◌<◌, ◌∷◌, All, IfErr, ℕ, List, length, map, true};
-ghost use Rattle.std.specs.List.Sorted.{IsPermutation};
+ghost use Rattle.std.specs.{Prelude.{◌≡◌, ◌<◌, ◌∷◌, All, IfErr, ℕ, List, length, map, true}, List.Sorted.IsPermutation};
 ghost use Rattle.star_schema.specs.Database.{TableTexts};
-ghost use Rattle.star_merger.specs.Partials.{contents_of};
+ghost use Rattle.star_merger.specs.{Partials.contents_of, Merged.{IsMerged, IsOverlap, IsUnprinted, spans_of}, Mergers.IsMergerOf, TextShares.{AreDistinct, IsTextShare, TextShare, all_contents, whole_texts}, Private.Outcomes.IsUnmerged, Private.Written.{IsMergedTelling, as_merge}};
 ghost use Rattle.star_engine.specs.{Answered.change, Queries.IsQueryQuote, Queries.IsQueryRun, Queries.IsQueryRunError};
-ghost use Rattle.star_merger.specs.{Merged.IsMerged, Merged.IsOverlap, Merged.IsUnprinted, Merged.spans_of, Mergers.IsMergerOf};
-ghost use Rattle.star_merger.specs.TextShares.{AreDistinct, IsTextShare, TextShare, all_contents, whole_texts};
-ghost use Rattle.star_merger.specs.{Private.Outcomes.IsUnmerged, Private.Written.IsMergedTelling, Private.Written.as_merge};
 
 use crate::facts::checked_facts;
 use crate::fault::PartialsFault;
@@ -21,6 +17,7 @@ use star_engine::query_laws::queries_that_fit_are_answered;
 use star_safety::law::admissible_programs_within_the_limit_are_not_refused;
 use star_schema::Limits;
 use star_verify::forecast;
+use star_world::law::sound_rows_have_a_world;
 use std::alloc::Global;
 
 fn as_merge(result_of_call: Result<(), EngineFault>) -> Result<(), PartialsFault>
@@ -47,9 +44,8 @@ fn write_merged<S: Sink, N: Sink>(
         → IsMerged (change S.contents S.is_failed out.old out.new)
         (change N.contents N.is_failed notes.old notes.new) (λ quoted. quoted ≡ note.now)
         (IsMergedTelling is.p (map contents_of partials.now) rows note.now) (λ fault. ⊥)
-        (IsUnmerged (map contents_of partials.now)) result }
-    ensures unprinted { IfErr result
-        (IsUnprinted (change S.contents S.is_failed out.old out.new)) }
+        (IsUnmerged is.p (map contents_of partials.now)) result }
+    ensures unprinted { IfErr result (IsUnprinted (change S.contents S.is_failed out.old out.new)) }
 {
     match outcome_of(alloc, merger, partials, rows) {
         Ok(outcome) => as_merge(write_outcome(alloc, &outcome, note, out, notes)),
@@ -91,6 +87,7 @@ impl Merger {
     {
         queries_that_fit_are_answered();
         admissible_programs_within_the_limit_are_not_refused();
+        sound_rows_have_a_world();
         let facts = match checked_facts(&self.query, partials, is_distinct, limits) {
             Ok(facts) => facts,
             Err(fault) => return Err(fault),

@@ -1,13 +1,12 @@
 // The outcome of a query over all parts, from the outcomes over each.
 
-ghost use Rattle.std.specs.Prelude.{◌≡◌, ◌++◌, ◌∷◌, [], ℕ, All, IfErr, IfOk, List, OnOk, length, map};
-ghost use Rattle.std.specs.{List.flat_map};
+ghost use Rattle.std.specs.{Prelude.{◌≡◌, ◌++◌, ◌∷◌, [], ℕ, All, IfErr, IfOk, List, OnOk, length, map}, List.flat_map};
 ghost use Rattle.star_schema.specs.{Groups.GroupRow, Tables.Value};
 ghost use Rattle.star_plan.specs.Meaning.{Plan, aggregate_of};
 ghost use Rattle.star_compile_laws.specs.Compiled.{compiled};
-ghost use Rattle.star_merge.specs.{Cells.group_of, Merged.AreOfShape, Merged.IsMergedRows};
-ghost use Rattle.star_merger.specs.{Mergers.IsMergerOf, Private.Outcomes.IsMergedOutcome, Private.Outcomes.IsUnmerged, Private.Outcomes.all_shown, Private.Shown.IsUsable, Private.Shown.counted, Private.Shown.lookups_in, Private.Shown.rows_shown, Private.Shown.updates_in};
-ghost use Rattle.star_merger.specs.Partials.{contents_of};
+ghost use Rattle.star_partial.specs.Contents.{Contents};
+ghost use Rattle.star_merge.specs.{Cells.group_of, Merged.AreOfShape, Merged.AreSmall, Merged.IsMergedRows, declared.fault.MergeFault.TheVariants.OutOfMemory};
+ghost use Rattle.star_merger.specs.{Mergers.IsMergerOf, Private.Outcomes.{IsMergedOutcome, IsUnmerged, all_shown}, Private.Shown.{IsUsable, counted, lookups_in, rows_shown, updates_in}, Partials.contents_of};
 
 use crate::fault::{PartialFault, PartialsFault, fault_at};
 use crate::merger::Merger;
@@ -22,14 +21,15 @@ use std::alloc::{AllocError, Global};
 // Appends the rows of a partial's report. Only a partial without rows of lineorder may be refused.
 fn push_report<'p>(
     partial: &'p Partial,
-    place: usize,
+    index: usize,
     line: usize,
     reports: &mut Vec<&'p FlatRows>,
 ) -> Result<(), PartialsFault>
     ensures shown { OnOk result (map (λ rows. rows.now) reports.new.items
         ≡ map (λ rows. rows.now) reports.old.items ++ rows_shown partial.now.run) }
     ensures usable { OnOk result (IsUsable (contents_of partial.now)) }
-    ensures failed { IfErr result (IsUnmerged (contents_of partial.now ∷ [])) }
+    ensures failed { (p : Plan) (more : List Contents)
+        → IfErr result (IsUnmerged p (contents_of partial.now ∷ more)) }
 {
     match &partial.run {
         Some(outcome) => {
@@ -37,27 +37,27 @@ fn push_report<'p>(
             Ok(())
         }
         None if partial.sizes.lineorder == 0 => Ok(()),
-        None => Err(fault_at(place, PartialFault::Refused { line })),
+        None => Err(fault_at(index, PartialFault::Refused { line })),
     }
 }
 
-// Appends the rows of the reports of partials, the first of which is at `place`.
+// Appends the rows of the reports of partials, the first of which is at `index`.
 fn push_reports<'p>(
     partials: &'p [Partial],
-    place: usize,
+    index: usize,
     line: usize,
     reports: &mut Vec<&'p FlatRows>,
 ) -> Result<(), PartialsFault>
     ensures shown { OnOk result (map (λ rows. rows.now) reports.new.items
         ≡ map (λ rows. rows.now) reports.old.items ++ all_shown (map contents_of partials.now)) }
     ensures usable { OnOk result (All IsUsable (map contents_of partials.now)) }
-    ensures failed { IfErr result (IsUnmerged (map contents_of partials.now)) }
+    ensures failed { (p : Plan) → IfErr result (IsUnmerged p (map contents_of partials.now)) }
 {
     match partials.split_first() {
         None => Ok(()),
         Some((first, rest)) => {
-            push_report(first, place, line, reports)?;
-            push_reports(rest, place.saturating_add(1), line, reports)
+            push_report(first, index, line, reports)?;
+            push_reports(rest, index.saturating_add(1), line, reports)
         }
     }
 }
@@ -80,24 +80,24 @@ fn updates_of(partial: &Partial) -> u64
     }
 }
 
-// Returns the look-ups and the updates of partials, added up. The first is at `place`.
-fn counts_of(partials: &[Partial], place: usize, line: usize) -> Result<(u64, u64), PartialsFault>
+// Returns the look-ups and the updates of partials, added up. The first is at `index`.
+fn counts_of(partials: &[Partial], index: usize, line: usize) -> Result<(u64, u64), PartialsFault>
     ensures lookups { IfOk result
         (λ counts. counts.0 ≡ counted lookups_in (map contents_of partials.now)) }
     ensures updates { IfOk result
         (λ counts. counts.1 ≡ counted updates_in (map contents_of partials.now)) }
-    ensures failed { IfErr result (IsUnmerged (map contents_of partials.now)) }
+    ensures failed { (p : Plan) → IfErr result (IsUnmerged p (map contents_of partials.now)) }
 {
     match partials.split_first() {
         None => Ok((0, 0)),
         Some((first, rest)) => {
-            let (lookups, updates) = counts_of(rest, place.saturating_add(1), line)?;
+            let (lookups, updates) = counts_of(rest, index.saturating_add(1), line)?;
             match (
                 lookups_of(first).checked_add(lookups),
                 updates_of(first).checked_add(updates),
             ) {
                 (Some(lookups), Some(updates)) => Ok((lookups, updates)),
-                _ => Err(fault_at(place, PartialFault::Overflow { line })),
+                _ => Err(fault_at(index, PartialFault::Overflow { line })),
             }
         }
     }
@@ -131,11 +131,16 @@ fn merged_rows(
     merger: &Merger,
     reports: &[&FlatRows],
 ) -> Result<CellRows, MergeFault>
-    ensures { (query : List ℕ) (is : IsMergerOf query merger.now) (groups : List (GroupRow Value))
+    ensures merged { (query : List ℕ) (is : IsMergerOf query merger.now)
+        (groups : List (GroupRow Value))
         → groups ≡ flat_map (λ rows. map (group_of (length is.p.keys)) rows.now) reports.now
         → AreOfShape (length is.p.keys) (map aggregate_of is.p.measures) groups
         → IfOk result (IsMergedRows is.p.shape (length is.p.keys) (map aggregate_of is.p.measures)
         is.p.sorts is.p.items groups) }
+    ensures small { (query : List ℕ) (is : IsMergerOf query merger.now)
+        (groups : List (GroupRow Value))
+        → groups ≡ flat_map (λ rows. map (group_of (length is.p.keys)) rows.now) reports.now
+        → AreSmall groups → IfErr result (λ fault. fault ≡ OutOfMemory) }
 {
     let tree = merger.plan.tree();
     let aggregates = aggregates_of(alloc, &merger.program)?;
@@ -159,7 +164,8 @@ pub(crate) fn outcome_of(
 ) -> Result<Outcome, PartialsFault>
     ensures merged { (query : List ℕ) (is : IsMergerOf query merger.now)
         → IfOk result (IsMergedOutcome is.p (map contents_of partials.now) visits) }
-    ensures failed { IfErr result (IsUnmerged (map contents_of partials.now)) }
+    ensures failed { (query : List ℕ) (is : IsMergerOf query merger.now)
+        → IfErr result (IsUnmerged is.p (map contents_of partials.now)) }
 {
     let line = dimensions_line(&merger.query).saturating_add(37);
     let mut reports = Vec::new(alloc);

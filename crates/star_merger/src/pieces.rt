@@ -59,8 +59,8 @@ fn read_columns(
     table: TableId,
     bounds: &mut [Interval; 58],
 ) -> Result<(), FieldFault> {
-    for place in 0..width(table) {
-        let column = column_at(table, place);
+    for index in 0..width(table) {
+        let column = column_at(table, index);
         bounds[column as usize] = bounds_of(alloc, fields, column)?;
     }
     Ok(())
@@ -109,8 +109,8 @@ fn read_counts(fields: &mut Fields<'_>) -> Result<(u64, u64, u64), FieldFault> {
 }
 
 // Returns the byte after a field of a line with `width` fields.
-fn end_of(place: usize, width: usize) -> u8 {
-    if width.saturating_sub(place) == 1 {
+fn end_of(index: usize, width: usize) -> u8 {
+    if width.saturating_sub(index) == 1 {
         b'\n'
     } else {
         b'|'
@@ -124,10 +124,10 @@ fn read_names(
     columns: &[PartialColumn],
 ) -> Result<Items<Name>, FieldFault> {
     let mut names = Vec::with_capacity(alloc, columns.len())?;
-    for place in 0..columns.len() {
-        let name = &columns[place].name;
+    for index in 0..columns.len() {
+        let name = &columns[index].name;
         fields.skip(name.as_slice())?;
-        fields.skip(&[end_of(place, columns.len())])?;
+        fields.skip(&[end_of(index, columns.len())])?;
         names.push(Items::from_vec(name.as_slice().to_vec(alloc)?))?;
     }
     Ok(Items::from_vec(names))
@@ -140,12 +140,11 @@ fn read_row(
     columns: &[PartialColumn],
     cells: &mut Vec<KeptCell>,
 ) -> Result<(), FieldFault>
-    ensures { OnOk result
-        (length cells.new.items ≡ length cells.old.items + length columns.now) }
+    ensures { OnOk result (length cells.new.items ≡ length cells.old.items + length columns.now) }
 {
-    for place in 0..columns.len() {
-        let end = end_of(place, columns.len());
-        let cell = fields.cell(alloc, columns[place].kind, end)?;
+    for index in 0..columns.len() {
+        let end = end_of(index, columns.len());
+        let cell = fields.cell(alloc, columns[index].kind, end)?;
         cells.push(KeptCell::new(alloc, cell)?)?;
     }
     Ok(())

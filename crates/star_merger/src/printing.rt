@@ -4,6 +4,7 @@ ghost use Rattle.std.specs.Prelude.{IfOk, OnOk};
 ghost use Rattle.star_engine.specs.Answered.{HasWritten, change};
 ghost use Rattle.star_merger.specs.Texts.{IsPartialText};
 
+use crate::spelled::spelled_law;
 use crate::writing::write_text;
 use star_common::Sink;
 use star_engine::{Engine, EngineFault};
@@ -14,7 +15,9 @@ pub fn partial_text(alloc: Global, engine: &Engine, query: &[u8]) -> Result<Vec<
     ensures { IfOk result (λ text.
         IsPartialText engine.now.visits engine.now.database query.now text.items) }
 {
+    engine.law();
     let partial = engine.partial(alloc, query)?;
+    spelled_law(&partial);
     Ok(partial.to_text(alloc, query)?)
 }
 

@@ -14,10 +14,10 @@ use crate::spelled::is_spelled;
 use star_partial::{ColumnKind, Partial as Whole};
 use std::alloc::{AllocError, Global};
 
-// Returns the number of the line, from 1, that has the byte at a place.
-fn line_at(text: &[u8], place: usize) -> usize {
+// Returns the number of the line, from 1, that has the byte at a position.
+fn line_at(text: &[u8], index: usize) -> usize {
     text.iter()
-        .take(place)
+        .take(index)
         .filter(|byte| **byte == b'\n')
         .count()
         .saturating_add(1)
@@ -89,8 +89,8 @@ fn read_text(
         Ok(partial) => Ok(partial),
         Err(FieldFault::OutOfMemory) => Err(PartialFault::OutOfMemory),
         Err(FieldFault::Unreadable) => {
-            let place = text.len().saturating_sub(fields.rest.len());
-            let line = line_at(text, place);
+            let index = text.len().saturating_sub(fields.rest.len());
+            let line = line_at(text, index);
             Err(PartialFault::BadLine { line })
         }
     }

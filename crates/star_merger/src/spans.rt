@@ -1,10 +1,9 @@
 // Spans of keys.
 
 ghost use Rattle.std.specs.Prelude.{◌≡◌, ◌<◌, ℕ, MatchOption, MatchResult, None, false, length, map, slice_index_or, true};
-ghost use Rattle.star_merger.specs.Partials.{contents_of};
+ghost use Rattle.star_merger.specs.{Partials.contents_of, Merged.{DoOverlap, IsOverlap, spans_of}, Private.Checked.AreDisjointSpans};
 ghost use Rattle.star_merge_laws.specs.Parts.{are_disjoint, key_list_cmp};
 ghost use Rattle.star_engine.specs.Partials.{line_numbers, span_view};
-ghost use Rattle.star_merger.specs.{Merged.DoOverlap, Merged.IsOverlap, Merged.spans_of, Private.Checked.AreDisjointSpans};
 
 use crate::fault::{PartialFault, PartialsFault};
 use crate::partial::Partial;
@@ -28,26 +27,26 @@ fn are_disjoint(a: &Option<Span>, b: &Option<Span>) -> bool
     }
 }
 
-// Tests the same of the spans of the partials at two places.
-fn are_disjoint_at(partials: &[Partial], other: usize, place: usize) -> bool
+// Tests the same of the spans of the partials at two positions.
+fn are_disjoint_at(partials: &[Partial], other: usize, index: usize) -> bool
     requires other { other < length partials.now }
-    requires place { place < length partials.now }
+    requires index { index < length partials.now }
     ensures { let spans = spans_of (map contents_of partials.now) in
-        result ≡ are_disjoint (slice_index_or spans other None) (slice_index_or spans place None) }
+        result ≡ are_disjoint (slice_index_or spans other None) (slice_index_or spans index None) }
 {
-    are_disjoint(&partials[other].span, &partials[place].span)
+    are_disjoint(&partials[other].span, &partials[index].span)
 }
 
-// Returns the first of the places before `place` whose span overlaps that at `place`.
-fn overlapped(partials: &[Partial], place: usize) -> Option<usize>
-    requires { place < length partials.now }
+// Returns the first of the positions before `index` whose span overlaps that at `index`.
+fn overlapped(partials: &[Partial], index: usize) -> Option<usize>
+    requires { index < length partials.now }
     ensures { let spans = spans_of (map contents_of partials.now) in
-        MatchOption result ((other : ℕ) → other < place → are_disjoint
-        (slice_index_or spans other None) (slice_index_or spans place None) ≡ true)
-        (λ other. DoOverlap spans place other) }
+        MatchOption result ((other : ℕ) → other < index → are_disjoint
+        (slice_index_or spans other None) (slice_index_or spans index None) ≡ true)
+        (λ other. DoOverlap spans index other) }
 {
-    for other in 0..place {
-        if !are_disjoint_at(partials, other, place) {
+    for other in 0..index {
+        if !are_disjoint_at(partials, other, index) {
             return Some(other);
         }
     }
@@ -59,10 +58,10 @@ pub(crate) fn check_spans(partials: &[Partial], line: usize) -> Result<(), Parti
     ensures { MatchResult result (λ _. AreDisjointSpans (spans_of (map contents_of partials.now)))
         (IsOverlap false (spans_of (map contents_of partials.now))) }
 {
-    for place in 0..partials.len() {
-        if let Some(other) = overlapped(partials, place) {
+    for index in 0..partials.len() {
+        if let Some(other) = overlapped(partials, index) {
             return Err(PartialsFault::Partial {
-                place,
+                index,
                 fault: PartialFault::Overlap { line },
                 other: Some(other),
             });

@@ -1,11 +1,11 @@
 // Whether a partial that was read is well-formed.
 
-ghost use Rattle.std.specs.Prelude.{◌≡◌, ◌<◌, ◌^◌, All, IfSome, length, true};
-ghost use Rattle.std.specs.List.{AllZip};
-ghost use Rattle.star_schema.specs.{declared.column.ColumnId.ColumnId as Column, declared.table.TableId.TableId, Sizes.size_of};
+ghost use Rattle.std.specs.{Prelude.{◌≡◌, ◌<◌, ◌^◌, ℕ, All, IfSome, List, length, true}, List.AllZip};
+ghost use Rattle.star_schema.specs.{Database.Database, declared.column.ColumnId.ColumnId as Column, declared.table.TableId.TableId, Sizes.size_of};
 ghost use Rattle.star_report.specs.Columns.{AreRowsOf, HasDigits, IsCellOfKind, is_field};
 ghost use Rattle.star_partial.specs.Contents.{bounds_at, contents_of};
-ghost use Rattle.star_merger.specs.{Columns.column_kinds, Columns.column_names, Columns.kind_view, Spelled.HasBounds, Spelled.IsSpelled, Spelled.IsSpelledKey, Spelled.IsSpelledRun, Spelled.IsSpelledSpan};
+ghost use Rattle.star_engine.specs.{Loads.AreLoadedRows, Loads.AreOfLoadableTexts, Partials.IsPartialOver};
+ghost use Rattle.star_merger.specs.{Columns.column_kinds, Columns.column_names, Columns.kind_view, Columns.plan_columns, Private.Digits.HasCellDigits, Spelled.HasBounds, Spelled.HasCounts, Spelled.IsSpelled, Spelled.IsSpelledKey, Spelled.IsSpelledRun, Spelled.IsSpelledSpan};
 
 use crate::columns::PartialColumn;
 use crate::dimensions::bounds_of;
@@ -17,6 +17,50 @@ use star_schema::{COLUMNS, ColumnId, Sizes, is_text};
 fn count_law(count: u64)
     ensures { count < 10 ^ 64 }
 {}
+
+fn counts_law(outcome: &Outcome)
+    ensures { HasCounts outcome.now }
+{
+    count_law(outcome.rows.len() as u64);
+    count_law(outcome.visits);
+    count_law(outcome.lookups);
+    count_law(outcome.updates);
+}
+
+fn cell_law(cell: &KeptCell)
+    ensures { HasCellDigits cell.now }
+{
+    if let CellView::Number(number) = cell.as_view() {
+        let _size = number.unsigned_abs();
+    }
+}
+
+fn row_law(row: &[KeptCell])
+    ensures { All HasCellDigits row.now }
+{
+    for cell in row {
+        cell_law(cell);
+    }
+}
+
+fn rows_law(rows: &CellRows)
+    ensures { All (All HasCellDigits) rows.now }
+{
+    for number in 0..rows.len() {
+        row_law(rows.row(number));
+    }
+}
+
+// States that the numbers of an outcome have at most 64 digits.
+fn run_law(run: &Option<Outcome>)
+    ensures counts { IfSome run.now HasCounts }
+    ensures cells { IfSome run.now (λ outcome. All (All HasCellDigits) outcome.rows) }
+{
+    if let Some(outcome) = run {
+        counts_law(outcome);
+        rows_law(&outcome.rows);
+    }
+}
 
 fn digits_law(number: i64)
     ensures { HasDigits number }
@@ -93,16 +137,11 @@ pub(crate) fn is_field(text: &[u8]) -> bool
 fn is_spelled_cell(cell: &KeptCell, kind: ColumnKind) -> bool
     ensures { result ≡ true → IsCellOfKind (kind_view kind) cell.now }
 {
+    cell_law(cell);
     match (kind, cell.as_view()) {
-        (ColumnKind::NumberKey, CellView::Number(number)) => {
-            let _size = number.unsigned_abs();
-            true
-        }
+        (ColumnKind::NumberKey, CellView::Number(_)) => true,
         (ColumnKind::TextKey, CellView::Text(text)) => is_field(text),
-        (ColumnKind::Total, CellView::Number(number)) => {
-            let _size = number.unsigned_abs();
-            true
-        }
+        (ColumnKind::Total, CellView::Number(_)) => true,
         (ColumnKind::Total, CellView::Null) => true,
         _ => false,
     }
@@ -147,10 +186,7 @@ fn is_spelled_run(outcome: &Outcome, columns: &[PartialColumn]) -> bool
     ensures { result ≡ true
         → IsSpelledRun (column_names columns.now) (column_kinds columns.now) outcome.now }
 {
-    count_law(outcome.rows.len() as u64);
-    count_law(outcome.visits);
-    count_law(outcome.lookups);
-    count_law(outcome.updates);
+    counts_law(outcome);
     if !are_names(outcome.names.as_slice(), columns) {
         return false;
     }
@@ -179,4 +215,18 @@ pub(crate) fn is_spelled(partial: &Partial, columns: &[PartialColumn]) -> bool
         return false;
     }
     has_spelled_run(&partial.run, columns)
+}
+
+/// States that the partial of a query over loaded tables is well-formed.
+pub(crate) fn spelled_law(partial: &Partial)
+    ensures { (rows most : ℕ) (database : Database) (query : List ℕ)
+        → AreOfLoadableTexts rows database → AreLoadedRows database
+        → (is : IsPartialOver most database query (contents_of partial.now))
+        → let columns = plan_columns is.p in
+        IsSpelled (column_names columns) (column_kinds columns) (contents_of partial.now) }
+{
+    bytes_law(&partial.digest);
+    span_law(&partial.span);
+    sizes_law(partial.sizes);
+    run_law(&partial.run);
 }

@@ -1,16 +1,11 @@
 -- Rows with texts for codes: they are in the order of the codes.
-use Rattle.std.proofs.Common.{◌≡◌, inl, inr, ℕ, zero, suc, List, [], ◌∷◌, Option, Some, None, length, get_or, map, replicate, sym, subst, refl, ◌∙◌}
-use Rattle.std.proofs.{lemmas.Option.slice_get-get_or}
-use Rattle.std.specs.{List.AllByRecursion, List.Contains, Cmp.Lexicographic.slice_cmp, Option.option_map, Ordering.ordering_then}
-use Rattle.star_schema.specs.Order.{AreInOrder, column_cmp, key_cmp, row_cmp, sort_cmp, value_cmp}
-use Rattle.star_schema.specs.{Database.Database, declared.group.GroupColumn.GroupColumn, declared.group.Direction.Direction, declared.group.Direction.TheVariants.Ascending, declared.group.Direction.TheVariants.Descending, declared.group.Shape.Shape, declared.group.SortKey.SortKey}
+use Rattle.std.{proofs.Common.{◌≡◌, inl, inr, ℕ, zero, suc, List, [], ◌∷◌, Option, Some, None, length, get_or, map, replicate, sym, subst, refl, ◌∙◌}, proofs.lemmas.Option.slice_get-get_or, specs.List.{AllByRecursion, Contains}, specs.Cmp.Lexicographic.slice_cmp, specs.Option.option_map, specs.Ordering.ordering_then}
+use Rattle.star_schema.{specs.Order.{AreInOrder, column_cmp, key_cmp, row_cmp, sort_cmp, value_cmp}, specs.Database.Database, specs.declared.group.GroupColumn.GroupColumn, specs.declared.group.Direction.Direction, specs.declared.group.Direction.TheVariants.{Ascending, Descending}, specs.declared.group.Shape.Shape, specs.declared.group.SortKey.SortKey, proofs.Dictionaries.IsDictionary-dictionary_of, proofs.TextIndexes.nat_cmp-indexes}
 use Rattle.star_schema.specs.{Groups.GroupRow as Row, Groups.IsGroup, Groups.IsMasked, Columns.column_dictionary, Columns.column_texts}
-use Rattle.star_schema.proofs.{Dictionaries.IsDictionary-dictionary_of, TextPlaces.nat_cmp-places}
 use Rattle.star_common.proofs.Members.{at_each}
 use Rattle.star_program.specs.{declared.group.GroupDecl.GroupDecl, declared.group.GroupKey.GroupKey, declared.key.KeyValue.KeyValue, declared.key.KeyValue.TheVariants.Number, declared.key.KeyValue.TheVariants.Code, Outcome.decoded, Outcome.decoded_keys, Outcome.decoded_row, Puts.Update}
-use Rattle.star_outcome.specs.{Private.Decoded.AreDecodable, Private.Decoded.IsDecodable, SoundKeys.AreSoundKeys, SoundKeys.IsSoundKey}
+use Rattle.star_outcome.{specs.Private.Decoded.{AreDecodable, IsDecodable}, specs.SoundKeys.{AreSoundKeys, IsSoundKey}, proofs.SortedRows.sorted_mapped}
 use Rattle.star_world.specs.WorldOf.{world_of}
-use Rattle.star_outcome.proofs.SortedRows.{sorted_mapped}
 use Rattle.star_schema.specs.declared.group.GroupColumn.TheVariants as column
 use Rattle.star_program.specs.declared.group.GroupKey.TheVariants as declared
 use Rattle.star_program.specs.Keys as by_code
@@ -44,25 +39,25 @@ group_decodable db s ds us keys sound (shown, inl is) = masked_decodable db ds k
 group_decodable db s ds us keys sound (shown, inr all) =
     subst (AreDecodable db ds) (sym all) (all_decodable db ds)
 
--- ---- a key at a place
+-- ---- a key at a position
 
-pub decoded_at : (db : Database) (ds : List GroupKey) (ks : List (Option KeyValue)) (place : ℕ)
-    → AreDecodable db ds ks → get_or (decoded_keys (world_of db) ds ks) place None
-    ≡ option_map (decoded (world_of db) (get_or ds place declared.Number)) (get_or ks place None)
-decoded_at db [] [] place h = refl
-decoded_at db [] (k ∷ ks) place h = absurd h
-decoded_at db (d ∷ ds) [] place h = absurd h
+pub decoded_at : (db : Database) (ds : List GroupKey) (ks : List (Option KeyValue)) (index : ℕ)
+    → AreDecodable db ds ks → get_or (decoded_keys (world_of db) ds ks) index None
+    ≡ option_map (decoded (world_of db) (get_or ds index declared.Number)) (get_or ks index None)
+decoded_at db [] [] index h = refl
+decoded_at db [] (k ∷ ks) index h = absurd h
+decoded_at db (d ∷ ds) [] index h = absurd h
 decoded_at db (d ∷ ds) (k ∷ ks) zero h = refl
-decoded_at db (d ∷ ds) (k ∷ ks) (suc place) h = decoded_at db ds ks place h.1
+decoded_at db (d ∷ ds) (k ∷ ks) (suc index) h = decoded_at db ds ks index h.1
 
-pub decodable_at : (db : Database) (ds : List GroupKey) (ks : List (Option KeyValue)) (place : ℕ)
-    → AreDecodable db ds ks → IsDecodable db (get_or ds place declared.Number)
-    (get_or ks place None)
-decodable_at db [] [] place h = tt
-decodable_at db [] (k ∷ ks) place h = absurd h
-decodable_at db (d ∷ ds) [] place h = absurd h
+pub decodable_at : (db : Database) (ds : List GroupKey) (ks : List (Option KeyValue)) (index : ℕ)
+    → AreDecodable db ds ks → IsDecodable db (get_or ds index declared.Number)
+    (get_or ks index None)
+decodable_at db [] [] index h = tt
+decodable_at db [] (k ∷ ks) index h = absurd h
+decodable_at db (d ∷ ds) [] index h = absurd h
 decodable_at db (d ∷ ds) (k ∷ ks) zero h = h.0
-decodable_at db (d ∷ ds) (k ∷ ks) (suc place) h = decodable_at db ds ks place h.1
+decodable_at db (d ∷ ds) (k ∷ ks) (suc index) h = decodable_at db ds ks index h.1
 
 -- ---- the order of codes is the order of their texts
 
@@ -76,7 +71,7 @@ same_values db (declared.Text c) (Number x) b sound_a sound_b = absurd sound_a
 same_values db (declared.Text c) (Code m) (Number y) sound_a sound_b = absurd sound_b
 same_values db (declared.Text c) (Code m) (Code n) sound_a sound_b =
     let texts = column_dictionary db c in
-    sym (nat_cmp-places texts (IsDictionary-dictionary_of (column_texts db c)).sorted m n
+    sym (nat_cmp-indexes texts (IsDictionary-dictionary_of (column_texts db c)).sorted m n
     (get_or texts m []) (get_or texts n []) (slice_get-get_or texts m [] sound_a.1)
     (slice_get-get_or texts n [] sound_b.1))
 
@@ -105,13 +100,13 @@ module _ (db : Database) (d : GroupDecl) where
       → AreDecodable db d.keys b.keys
       → column_cmp value_cmp c (decoded_row (world_of db) d a) (decoded_row (world_of db) d b)
       ≡ column_cmp by_code.key_value_cmp c a b
-  same_column (column.Key place) a b h k =
-      (λ i. key_cmp value_cmp (decoded_at db d.keys a.keys place h i)
-      (decoded_at db d.keys b.keys place k i))
-      ∙ same_keys db (get_or d.keys place declared.Number) (get_or a.keys place None)
-      (get_or b.keys place None) (decodable_at db d.keys a.keys place h)
-      (decodable_at db d.keys b.keys place k)
-  same_column (column.Aggregate place) a b h k = refl
+  same_column (column.Key index) a b h k =
+      (λ i. key_cmp value_cmp (decoded_at db d.keys a.keys index h i)
+      (decoded_at db d.keys b.keys index k i))
+      ∙ same_keys db (get_or d.keys index declared.Number) (get_or a.keys index None)
+      (get_or b.keys index None) (decodable_at db d.keys a.keys index h)
+      (decodable_at db d.keys b.keys index k)
+  same_column (column.Aggregate index) a b h k = refl
 
   same_directed : (c : GroupColumn) (way : Direction) (a b : Row KeyValue)
       → AreDecodable db d.keys a.keys → AreDecodable db d.keys b.keys

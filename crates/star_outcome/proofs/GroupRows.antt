@@ -1,13 +1,10 @@
 -- The rows of a group: each has its keys, no two have the same, and they agree on what is NULL.
-use Rattle.std.proofs.Common.{◌≡◌, ◌<◌, ⊎_elim, inl, inr, ℕ, zero, suc, ◌+◌, Bool, true, false, true≢false, cond, ℤ, List, [], ◌∷◌, Option, Some, None, length, get_or, map, arith, ap, subst, sym, refl, ◌∙◌}
-use Rattle.std.proofs.{lemmas.List.get_or-map, lemmas.List.length-map, lemmas.List.length-replicate, lemmas.List.Sorted.Contains-permutation, lemmas.List.Sorted.IsPermutation-sym, lemmas.Map.Made.IsDistinct-from_AllPairs, lemmas.Option.slice_get-get_or}
-use Rattle.std.specs.{Prelude.IsPermutation, Prelude.replicate, List.AllByRecursion, List.Contains, List.filter, Option.is_some, declared.cmp.Ordering.Ordering}
+use Rattle.std.{proofs.Common.{◌≡◌, ◌<◌, ⊎_elim, inl, inr, ℕ, zero, suc, ◌+◌, Bool, true, false, true≢false, cond, ℤ, List, [], ◌∷◌, Option, Some, None, length, get_or, map, arith, ap, subst, sym, refl, ◌∙◌}, proofs.lemmas.List.{get_or-map, length-map, length-replicate}, proofs.lemmas.List.Sorted.{Contains-permutation, IsPermutation-sym}, proofs.lemmas.Map.Made.IsDistinct-from_AllPairs, proofs.lemmas.Option.slice_get-get_or, specs.Prelude.{IsPermutation, replicate}, specs.List.{AllByRecursion, Contains, filter}, specs.Option.is_some, specs.declared.cmp.Ordering.Ordering}
 use Rattle.star_schema.specs.Groups.{AreGroups, Entry, GroupRow as Row, IsGroup, aggregate, belongs, joined, joined_with, members, totals_from}
 use Rattle.star_schema.specs.{declared.group.Aggregate.Aggregate, declared.group.Aggregate.TheVariants.Sum, declared.group.Aggregate.TheVariants.Count, declared.group.Aggregate.TheVariants.Min, declared.group.Aggregate.TheVariants.Max, declared.group.Shape.Shape}
 use Rattle.star_common.proofs.Members.{at_each, contains_cases, contains_here, contains_none}
 use Rattle.star_program.specs.{declared.key.KeyValue.KeyValue, Keys.key_value_cmp, Puts.Update}
-use Rattle.star_group.specs.{Held.has_puts, StoreRows.AreRows, Stores.Group}
-use Rattle.star_group.proofs.GroupKeys.{key_decides, masked_length, own_belongs}
+use Rattle.star_group.{specs.Held.has_puts, specs.StoreRows.AreRows, specs.Stores.Group, proofs.GroupKeys.{key_decides, masked_length, own_belongs}}
 use Rattle.star_outcome.proofs.{RowOrders.AreAlike, SortedRows.AreApart, SortedRows.keys_of_row}
 
 -- ---- apart
@@ -110,8 +107,8 @@ groups_alike d puts rows fit are a b in_a in_b =
     record {
       first = group_wide d puts a.keys fit group_a.0;
       second = group_wide d puts b.keys fit group_b.0;
-      nulls = λ place. ap (λ ts. is_some (get_or ts place None)) group_a.1
-          ∙ same_nulls d.aggregates 0 place (members key_value_cmp a.keys puts)
+      nulls = λ index. ap (λ ts. is_some (get_or ts index None)) group_a.1
+          ∙ same_nulls d.aggregates 0 index (members key_value_cmp a.keys puts)
           (members key_value_cmp b.keys puts) same
-          ∙ sym (ap (λ ts. is_some (get_or ts place None)) group_b.1);
+          ∙ sym (ap (λ ts. is_some (get_or ts index None)) group_b.1);
     }

@@ -1,18 +1,10 @@
 -- Rows sorted by their leads ascend by the order of rows.
-use Rattle.std.proofs.Common.{◌≡◌, ◌+◌, ◌<◌, Bool, true, false, true≢false, ◌<ℤ◌, ◌-ℤ◌, ℕ, ℤ, negsuc, List, [], ◌∷◌, Option, Some, None, length, get_or, map, arith, ap, sym, subst, refl, ◌∙◌}
-use Rattle.std.proofs.{lemmas.Bool.or_parts, lemmas.Bool.Decides.Decides-int_eq, lemmas.Int.ints, lemmas.Int.clamps, lemmas.Cmp.int_cmp_total, lemmas.Cmp.on_total, lemmas.Cmp.then_total, lemmas.List.ext_get_or, lemmas.List.Elements.Contains-get_or}
-use Rattle.std.proofs.{lemmas.List.FromFn.get_or-map-range_with_len, lemmas.List.FromFn.length-map-range_with_len, lemmas.List.Sorted.Contains-permutation, lemmas.List.Sorted.IsPermutation-map, lemmas.List.Sorted.IsPermutation-sym, lemmas.Simd.map-map}
-use Rattle.std.specs.Prelude.{IsPermutation, not, int_lt, ◌||◌, if◌then◌else◌}
-use Rattle.std.specs.Ordering.{MatchOrdering, int_cmp, int_eq, is_lt, nat_cmp, ordering_then}
-use Rattle.std.specs.{Cmp.IsTotalOrder, Cmp.int_cmp_is, Cmp.int_ranks, Cmp.nat_cmp_is, List.Contains, List.range_with_len, List.Sorted.IsSortedBy, Option.option_cmp, declared.cmp.Ordering.Ordering, declared.cmp.Ordering.TheVariants.Less, declared.cmp.Ordering.TheVariants.Equal}
-use Rattle.std.specs.{declared.cmp.Ordering.TheVariants.Greater}
+use Rattle.std.{proofs.Common.{◌≡◌, ◌+◌, ◌<◌, Bool, true, false, true≢false, ◌<ℤ◌, ◌-ℤ◌, ℕ, ℤ, negsuc, List, [], ◌∷◌, Option, Some, None, length, get_or, map, arith, ap, sym, subst, refl, ◌∙◌}, proofs.lemmas.Bool.or_parts, proofs.lemmas.Bool.Decides.Decides-int_eq, proofs.lemmas.Int.{ints, clamps}, proofs.lemmas.Cmp.{int_cmp_total, on_total, then_total}, proofs.lemmas.List.ext_get_or, proofs.lemmas.List.Elements.Contains-get_or, proofs.lemmas.List.FromFn.{get_or-map-range_with_len, length-map-range_with_len}, proofs.lemmas.List.Sorted.{Contains-permutation, IsPermutation-map, IsPermutation-sym}, proofs.lemmas.Simd.map-map, specs.Prelude.{IsPermutation, not, int_lt, ◌||◌, if◌then◌else◌}, specs.Ordering.{MatchOrdering, int_cmp, int_eq, is_lt, nat_cmp, ordering_then}, specs.Cmp.{IsTotalOrder, int_cmp_is, int_ranks, nat_cmp_is}, specs.List.{Contains, range_with_len}, specs.List.Sorted.IsSortedBy, specs.Option.option_cmp, specs.declared.cmp.Ordering.Ordering, specs.declared.cmp.Ordering.TheVariants.{Less, Equal, Greater}}
 use Rattle.star_schema.specs.{declared.group.GroupColumn.GroupColumn, declared.group.Direction.Direction, declared.group.Direction.TheVariants.Ascending, declared.group.Direction.TheVariants.Descending, declared.group.SortKey.SortKey, Groups.GroupRow as Row, Order.key_cmp}
 use Rattle.star_common.proofs.Members.{from_contains_map}
 use Rattle.star_program.specs.{declared.key.KeyValue.KeyValue, Keys.key_value_cmp}
 use Rattle.star_group.specs.StoreRows.{row_at}
-use Rattle.star_outcome.specs.Private.Leads.{all_lead, code_lead, code_lead_end, column_lead, directed, first_lead, greatest_lead, is_end, key_lead, least_lead, led_at, led_cmp, next_lead, null_lead, number_lead, total_lead}
-use Rattle.star_outcome.specs.{declared.outcome.leads.Led.Led, Private.RowOrder.column_order, Private.RowOrder.directed_order, Private.RowOrder.row_order, Private.RowOrder.sort_order}
-use Rattle.star_outcome.proofs.{RowOrders.row_total, SortedRows.sorted_under}
+use Rattle.star_outcome.{specs.Private.Leads.{all_lead, code_lead, code_lead_end, column_lead, directed, first_lead, greatest_lead, is_end, key_lead, least_lead, led_at, led_cmp, next_lead, null_lead, number_lead, total_lead}, specs.declared.outcome.leads.Led.Led, specs.Private.RowOrder.{column_order, directed_order, row_order, sort_order}, proofs.RowOrders.row_total, proofs.SortedRows.sorted_under}
 use Rattle.star_schema.specs.declared.group.GroupColumn.TheVariants as column
 use Rattle.star_program.specs.declared.key.KeyValue.TheVariants as key
 
@@ -42,7 +34,8 @@ numbers_coarse x y = coarse (number_lead x) (number_lead y) (int_cmp x y)
 codes_coarse : (m n : ℕ)
     → ordering_then (int_cmp (code_lead m) (code_lead n)) (nat_cmp m n) ≡ nat_cmp m n
 codes_coarse m n = coarse (code_lead m) (code_lead n) (nat_cmp m n)
-    (λ h. by Less (omega (arith, ints, clamps, h))) (λ h. by Greater (omega (arith, ints, clamps, h)))
+    (λ h. by Less (omega (arith, ints, clamps, h)))
+    (λ h. by Greater (omega (arith, ints, clamps, h)))
   where
     by : (o : Ordering) → MatchOrdering o (m < n) (m ≡ n) (n < m) → nat_cmp m n ≡ o
     by o h = sym (nat_cmp_is m n o h)
@@ -52,7 +45,8 @@ keys_coarse : (a b : Option KeyValue) → ordering_then (int_cmp (key_lead a) (k
 keys_coarse (Some (key.Number x)) (Some (key.Number y)) = numbers_coarse x y
 keys_coarse (Some (key.Number x)) (Some (key.Code n)) =
     below (number_lead x) (code_lead n) (omega (arith, ints, clamps))
-keys_coarse (Some (key.Number x)) None = below (number_lead x) all_lead (omega (arith, ints, clamps))
+keys_coarse (Some (key.Number x)) None =
+    below (number_lead x) all_lead (omega (arith, ints, clamps))
 keys_coarse (Some (key.Code m)) (Some (key.Number y)) =
     above (code_lead m) (number_lead y) (omega (arith, ints, clamps))
 keys_coarse (Some (key.Code m)) (Some (key.Code n)) = codes_coarse m n
@@ -72,10 +66,10 @@ totals_coarse None None = refl
 column_coarse : (c : GroupColumn) (a b : Row KeyValue)
     → ordering_then (int_cmp (column_lead c a) (column_lead c b)) (column_order c a b)
     ≡ column_order c a b
-column_coarse (column.Key place) a b =
-    keys_coarse (get_or a.keys place None) (get_or b.keys place None)
-column_coarse (column.Aggregate place) a b =
-    totals_coarse (get_or a.totals place None) (get_or b.totals place None)
+column_coarse (column.Key index) a b =
+    keys_coarse (get_or a.keys index None) (get_or b.keys index None)
+column_coarse (column.Aggregate index) a b =
+    totals_coarse (get_or a.totals index None) (get_or b.totals index None)
 
 -- what is taken off the same number, the other way round
 taken_off : (x y : ℤ) → int_cmp (directed Descending x) (directed Descending y) ≡ int_cmp y x
@@ -144,7 +138,7 @@ codes_exact m n end e =
 
 column_exact : (c : GroupColumn) (a b : Row KeyValue) → is_end (column_lead c a) ≡ false
     → column_lead c a ≡ column_lead c b → column_order c a b ≡ Equal
-column_exact (column.Key place) a b = keys (get_or a.keys place None) (get_or b.keys place None)
+column_exact (column.Key index) a b = keys (get_or a.keys index None) (get_or b.keys index None)
   where
     keys : (a b : Option KeyValue) → is_end (key_lead a) ≡ false → key_lead a ≡ key_lead b
         → key_cmp key_value_cmp a b ≡ Equal
@@ -157,8 +151,8 @@ column_exact (column.Key place) a b = keys (get_or a.keys place None) (get_or b.
     keys None (Some (key.Number y)) end e = absurd (omega (arith, ints, clamps, e))
     keys None (Some (key.Code n)) end e = absurd (omega (arith, ints, clamps, e))
     keys None None end e = refl
-column_exact (column.Aggregate place) a b =
-    totals (get_or a.totals place None) (get_or b.totals place None)
+column_exact (column.Aggregate index) a b =
+    totals (get_or a.totals index None) (get_or b.totals index None)
   where
     totals : (x y : Option ℤ) → is_end (total_lead x) ≡ false → total_lead x ≡ total_lead y
         → option_cmp int_cmp x y ≡ Equal
@@ -219,7 +213,8 @@ led_finer (sort ∷ sorts) rows i j =
 
 -- ---- the rows of a group
 
-pub led_total : (sorts : List SortKey) (rows : List (Row KeyValue)) → IsTotalOrder (led_cmp sorts rows)
+pub led_total : (sorts : List SortKey) (rows : List (Row KeyValue))
+    → IsTotalOrder (led_cmp sorts rows)
 led_total sorts rows = then_total
     (then_total (on_total (λ (led : Led). led.lead) int_cmp_total)
     (on_total (λ (led : Led). led.next) int_cmp_total))
@@ -255,7 +250,8 @@ module _ (sorts : List SortKey) (rows : List (Row KeyValue)) (all : List Led)
   pub rows_moved : IsPermutation rows (map row_of all)
   rows_moved = subst (λ xs. IsPermutation xs (map row_of all))
       (map-map row_of (led_at sorts rows) (range_with_len 0 (length rows)) ∙ numbered rows)
-      (IsPermutation-map row_of (map (led_at sorts rows) (range_with_len 0 (length rows))) all moved)
+      (IsPermutation-map row_of (map (led_at sorts rows)
+      (range_with_len 0 (length rows))) all moved)
 
   pub rows_ascend : IsSortedBy (λ a b. is_lt (led_cmp sorts rows a b)) all
       → IsSortedBy (λ a b. is_lt (row_order sorts a b)) (map row_of all)

@@ -1,14 +1,10 @@
 -- The report of a run, from the sorted groups of a store.
-use Rattle.std.proofs.Common.{◌≡◌, arith, ℕ, suc, length, List, [], ◌∷◌, Some, get_or, slice_get, map, ap, sym, subst, refl, ◌∙◌}
-use Rattle.std.proofs.{Math.ListN.get_or-map, lemmas.List.length-map, lemmas.List.Elements.Contains-get_or, lemmas.Simd.map-map}
-use Rattle.std.specs.List.{All, AllByRecursion, Contains}
+use Rattle.std.{proofs.Common.{◌≡◌, arith, ℕ, suc, length, List, [], ◌∷◌, Some, get_or, slice_get, map, ap, sym, subst, refl, ◌∙◌}, proofs.Math.ListN.get_or-map, proofs.lemmas.List.length-map, proofs.lemmas.List.Elements.Contains-get_or, proofs.lemmas.Simd.map-map, specs.List.{All, AllByRecursion, Contains}}
 use Rattle.star_schema.specs.{Database.Database, declared.group.SortKey.SortKey, Groups.GroupRow as Row}
 use Rattle.star_program.specs.{declared.group.GroupDecl.GroupDecl, declared.group.GroupKey.GroupKey, declared.outcome.Cell.Cell, declared.program.Parts.Parts, declared.key.KeyValue.KeyValue, Effects.State, Faults.group_at, Outcome.decoded_row, Outcome.shown_cells, Puts.Update}
 use Rattle.star_group.specs.{StoreRows.AreRows as AreGroupRows, StoreRows.row_at, Stores.Group, Stores.group_declared}
-use Rattle.star_outcome.specs.Private.Decoded.{AreDecodable, AreReported, AreSortedGroups, AreToReport, row_cells}
-use Rattle.star_outcome.specs.{Done.HasDone, SoundKeys.AreSoundKeys, declared.work.Work.Work}
+use Rattle.star_outcome.{specs.Private.Decoded.{AreDecodable, AreReported, AreSortedGroups, AreToReport, row_cells}, specs.Done.HasDone, specs.SoundKeys.AreSoundKeys, specs.declared.work.Work.Work, proofs.DecodedRows.{decoded_in_order, group_decodable}}
 use Rattle.star_world.specs.WorldOf.{world_of}
-use Rattle.star_outcome.proofs.DecodedRows.{decoded_in_order, group_decodable}
 
 -- ---- the rows have keys as declared
 
@@ -33,7 +29,8 @@ pub decodable_by_number :
     → All (λ number. AreDecodable db ds (row_at left number).keys) numbers
 decodable_by_number db ds left numbers all = λ k d within.
     let seen = length-map numbers (row_at left) in
-    subst (λ (row : Row KeyValue). AreDecodable db ds row.keys) (get_or-map (row_at left) numbers k d)
+    subst (λ (row : Row KeyValue). AreDecodable db ds row.keys)
+    (get_or-map (row_at left) numbers k d)
     (all k (row_at left d) (omega (arith, within, seen)))
 
 -- ---- the report

@@ -1,10 +1,6 @@
 -- The order of rows is an order, it tells rows with different keys apart, and for the rows of one
 -- group it is that of the report.
-use Rattle.std.proofs.Common.{◌≡◌, ◌<◌, ◌<ℤ◌, ◌+◌, ℕ, ℤ, pos, zero, suc, add-one, true≢false, List, [], ◌∷◌, Option, Some, None, length, drop, arith, ap, get_or, map, sym, subst, refl, ◌∙◌}
-use Rattle.std.proofs.lemmas.Cmp.{back_total, int_cmp_total, nat_cmp_total, on_total, then_total}
-use Rattle.std.proofs.{Math.Dec.ltb, Math.Seq.drop-cons, lemmas.Bool.lt-ltb, lemmas.Float.T_from_true, lemmas.List.drop_all}
-use Rattle.std.specs.{Cmp.IsTotalOrder, Cmp.int_cmp_is, Cmp.int_ranks, Cmp.ranks, Cmp.Lexicographic.slice_cmp, Cmp.Lexicographic.options_total, List.range_with_len, Option.is_some, Option.option_cmp, Ordering.MatchOrdering, Ordering.int_cmp, Ordering.nat_cmp, Ordering.ordering_then}
-use Rattle.std.specs.{declared.cmp.Ordering.Ordering, declared.cmp.Ordering.TheVariants.Less, declared.cmp.Ordering.TheVariants.Equal, declared.cmp.Ordering.TheVariants.Greater, Int.Signed.lt_z_yes}
+use Rattle.std.{proofs.Common.{◌≡◌, ◌<◌, ◌<ℤ◌, ◌+◌, ℕ, ℤ, pos, zero, suc, add-one, true≢false, List, [], ◌∷◌, Option, Some, None, length, drop, arith, ap, get_or, map, sym, subst, refl, ◌∙◌}, proofs.lemmas.Cmp.{back_total, int_cmp_total, nat_cmp_total, on_total, then_total}, proofs.Math.Dec.ltb, proofs.Math.Seq.drop-cons, proofs.lemmas.Bool.lt-ltb, proofs.lemmas.Float.T_from_true, proofs.lemmas.List.drop_all, specs.Cmp.{IsTotalOrder, int_cmp_is, int_ranks, ranks}, specs.Cmp.Lexicographic.{slice_cmp, options_total}, specs.List.range_with_len, specs.Option.{is_some, option_cmp}, specs.Ordering.{MatchOrdering, int_cmp, nat_cmp, ordering_then}, specs.declared.cmp.Ordering.Ordering, specs.declared.cmp.Ordering.TheVariants.{Less, Equal, Greater}, specs.Int.Signed.lt_z_yes}
 use Rattle.star_schema.specs.{declared.group.GroupColumn.GroupColumn, declared.group.Direction.Direction, declared.group.Direction.TheVariants.Ascending, declared.group.Direction.TheVariants.Descending, declared.group.SortKey.SortKey, Groups.GroupRow as Row, Order.key_cmp}
 use Rattle.star_program.specs.{declared.key.KeyValue.KeyValue, declared.key.KeyValue.TheVariants.Number, declared.key.KeyValue.TheVariants.Code, Keys.key_value_cmp}
 use Rattle.star_outcome.specs.Private.RowOrder.{all_sorts, column_order, directed_order, key_sort, row_order, sort_order}
@@ -51,10 +47,10 @@ key_total = subst IsTotalOrder (λ i a b. by_kind a b i)
     (then_total (on_total kind nat_cmp_total) (on_total number int_cmp_total))
 
 column_total : (c : GroupColumn) → IsTotalOrder (column_order c)
-column_total (column.Key place) =
-    on_total (λ (row : Row KeyValue). get_or row.keys place None) key_total
-column_total (column.Aggregate place) =
-    on_total (λ (row : Row KeyValue). get_or row.totals place None) (options_total int_cmp_total)
+column_total (column.Key index) =
+    on_total (λ (row : Row KeyValue). get_or row.keys index None) key_total
+column_total (column.Aggregate index) =
+    on_total (λ (row : Row KeyValue). get_or row.totals index None) (options_total int_cmp_total)
 
 directed_total : (c : GroupColumn) (d : Direction) → IsTotalOrder (directed_order c d)
 directed_total c Ascending = column_total c
@@ -66,14 +62,14 @@ row_total (sort ∷ sorts) = then_total (directed_total sort.column sort.directi
 
 -- ---- the keys of a row, one after another
 
-keys_by_place : (n i : ℕ) (a b : Row KeyValue) → length a.keys ≡ i + n → length b.keys ≡ i + n
+keys_by_index : (n i : ℕ) (a b : Row KeyValue) → length a.keys ≡ i + n → length b.keys ≡ i + n
     → row_order (map key_sort (range_with_len i n)) a b
     ≡ slice_cmp (key_cmp key_value_cmp) (drop i a.keys) (drop i b.keys)
-keys_by_place zero i a b long_a long_b =
+keys_by_index zero i a b long_a long_b =
     λ j. slice_cmp (key_cmp key_value_cmp) (sym (drop_all i a.keys (omega (arith, long_a))) j)
     (sym (drop_all i b.keys (omega (arith, long_b))) j)
-keys_by_place (suc n) i a b long_a long_b =
-    let rest = keys_by_place n (i + 1) a b (omega (arith, long_a)) (omega (arith, long_b)) in
+keys_by_index (suc n) i a b long_a long_b =
+    let rest = keys_by_index n (i + 1) a b (omega (arith, long_a)) (omega (arith, long_b)) in
     let here = sort_order (key_sort i) a b in
     ap (ordering_then here) rest
     ∙ (λ j. ordering_then here (slice_cmp (key_cmp key_value_cmp) (drop (add-one i j) a.keys)
@@ -117,12 +113,13 @@ keys_level (a ∷ xs) (b ∷ ys) e =
 pub record AreAlike (count : ℕ) (a b : Row KeyValue) : Type 0 where
   pub first : length a.keys ≡ count
   pub second : length b.keys ≡ count
-  pub nulls : (place : ℕ) → is_some (get_or a.totals place None) ≡ is_some (get_or b.totals place None)
+  pub nulls : (index : ℕ)
+      → is_some (get_or a.totals index None) ≡ is_some (get_or b.totals index None)
 
 all_keys : (count : ℕ) (a b : Row KeyValue) → AreAlike count a b
     → row_order (all_sorts [] count) a b ≡ slice_cmp (key_cmp key_value_cmp) a.keys b.keys
 all_keys count a b alike =
-    keys_by_place count 0 a b (omega (arith, alike.first)) (omega (arith, alike.second))
+    keys_by_index count 0 a b (omega (arith, alike.first)) (omega (arith, alike.second))
 
 pub rows_level : (sorts : List SortKey) (count : ℕ) (a b : Row KeyValue) → AreAlike count a b
     → row_order (all_sorts sorts count) a b ≡ Equal → a.keys ≡ b.keys
@@ -138,17 +135,17 @@ same_total None (Some y) e = absurd (true≢false (sym e))
 same_total None None e = refl
 
 same_column : (c : GroupColumn) (a b : Row KeyValue)
-    → ((place : ℕ) → is_some (get_or a.totals place None) ≡ is_some (get_or b.totals place None))
+    → ((index : ℕ) → is_some (get_or a.totals index None) ≡ is_some (get_or b.totals index None))
     → report.column_cmp key_value_cmp c a b ≡ column_order c a b
-same_column (column.Key place) a b nulls = refl
-same_column (column.Aggregate place) a b nulls =
-    same_total (get_or a.totals place None) (get_or b.totals place None) (nulls place)
+same_column (column.Key index) a b nulls = refl
+same_column (column.Aggregate index) a b nulls =
+    same_total (get_or a.totals index None) (get_or b.totals index None) (nulls index)
 
 same_directed : (c : GroupColumn) (d : Direction) {count : ℕ} (a b : Row KeyValue)
     → AreAlike count a b → report.sort_cmp key_value_cmp (record { column = c; direction = d }) a b
     ≡ directed_order c d a b
 same_directed c Ascending a b alike = same_column c a b alike.nulls
-same_directed c Descending a b alike = same_column c b a (λ place. sym (alike.nulls place))
+same_directed c Descending a b alike = same_column c b a (λ index. sym (alike.nulls index))
 
 pub same_order : (sorts : List SortKey) (count : ℕ) (a b : Row KeyValue) → AreAlike count a b
     → report.row_cmp key_value_cmp sorts a b ≡ row_order (all_sorts sorts count) a b

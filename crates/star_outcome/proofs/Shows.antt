@@ -1,10 +1,7 @@
 -- What the report names is there.
-use Rattle.std.proofs.Common.{◌≡◌, ◌≤◌, ◌+◌, ℕ, length, Bool, true, false, List, [], ◌∷◌, ◌++◌, Option, Some, None, map, refl}
-use Rattle.std.proofs.{lemmas.Bool.and_parts, lemmas.Bool.Decides.Decides-ltb, lemmas.List.Elements.All-from_recursion}
-use Rattle.std.specs.{Prelude.nat_lt, Prelude.if◌then◌else◌, List.All, List.AllByRecursion}
+use Rattle.std.{proofs.Common.{◌≡◌, ◌≤◌, ◌+◌, ℕ, length, Bool, true, false, List, [], ◌∷◌, ◌++◌, Option, Some, None, map, refl}, proofs.lemmas.Bool.and_parts, proofs.lemmas.Bool.Decides.Decides-ltb, proofs.lemmas.List.Elements.All-from_recursion, specs.Prelude.{nat_lt, if◌then◌else◌}, specs.List.{All, AllByRecursion}}
 use Rattle.star_schema.specs.{declared.group.GroupColumn.GroupColumn, declared.group.Shape.TheVariants.Plain}
-use Rattle.star_program.specs.ShowLines.{first_unshown, has_column, named_columns, reports, shown_fault}
-use Rattle.star_program.specs.{Limits.IsWithinLimits, declared.group.GroupDecl.GroupDecl, declared.program.Parts.Parts, declared.program.Show.Show, Faults.group_at}
+use Rattle.star_program.specs.{ShowLines.{first_unshown, has_column, named_columns, reports, shown_fault}, Limits.IsWithinLimits, declared.group.GroupDecl.GroupDecl, declared.program.Parts.Parts, declared.program.Show.Show, Faults.group_at}
 
 if_none : (b : Bool) (o : Option ℕ) (line : ℕ) → (if b then o else Some line) ≡ None
     → (b ≡ true) × (o ≡ None)

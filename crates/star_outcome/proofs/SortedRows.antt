@@ -1,18 +1,12 @@
 -- Rows that were sorted.
-use Rattle.std.proofs.Common.{◌≡◌, ◌+◌, ◌<◌, ℕ, Bool, false, true≢false, List, [], ◌∷◌, Option, length, get_or, map, arith, ap, sym, subst, refl, ◌∙◌}
+use Rattle.std.{proofs.Common.{◌≡◌, ◌+◌, ◌<◌, ℕ, Bool, false, true≢false, List, [], ◌∷◌, Option, length, get_or, map, arith, ap, sym, subst, refl, ◌∙◌}, specs.Prelude.IsPermutation, specs.Cmp.{IsStrictWeakOrder, IsTotalOrder}, specs.Fn.{Called, ComparesAs}, specs.List.{Contains, IsDistinct}, specs.List.Sorted.{IsSortedBy, IsStrictlySortedBy}, specs.Ordering.{is_lt, ordering_reverse}, specs.declared.cmp.Ordering.Ordering, specs.declared.cmp.Ordering.TheVariants.{Less, Equal, Greater}, proofs.lemmas.Fn.always_returns_same, proofs.lemmas.List.{get_or-map, length-map, map-id}, proofs.lemmas.List.Elements.Contains-get_or, proofs.lemmas.List.Sorted.{Contains-permutation, IsPermutation-map, IsPermutation-sym, ranks_by}, proofs.lemmas.Map.Keys.{IsDistinct-IsPermutation, apart_from_distinct, sorted_from_all_adjacent}}
 use denote.Param.Members.{Mut}
 use denote.Ref.{Bor}
-use Rattle.std.specs.{Prelude.IsPermutation, Cmp.IsStrictWeakOrder, Cmp.IsTotalOrder, Fn.Called, Fn.ComparesAs, List.Contains, List.IsDistinct, List.Sorted.IsSortedBy, List.Sorted.IsStrictlySortedBy, Ordering.is_lt, Ordering.ordering_reverse, declared.cmp.Ordering.Ordering}
-use Rattle.std.specs.{declared.cmp.Ordering.TheVariants.Less, declared.cmp.Ordering.TheVariants.Equal, declared.cmp.Ordering.TheVariants.Greater}
-use Rattle.std.proofs.{lemmas.Fn.always_returns_same, lemmas.List.get_or-map, lemmas.List.length-map, lemmas.List.map-id, lemmas.List.Elements.Contains-get_or, lemmas.List.Sorted.Contains-permutation, lemmas.List.Sorted.IsPermutation-map, lemmas.List.Sorted.IsPermutation-sym}
-use Rattle.std.proofs.{lemmas.List.Sorted.ranks_by, lemmas.Map.Keys.IsDistinct-IsPermutation, lemmas.Map.Keys.apart_from_distinct, lemmas.Map.Keys.sorted_from_all_adjacent}
 use Rattle.star_schema.specs.{declared.group.SortKey.SortKey, Groups.GroupRow as Row, Order.AreInOrder, Order.row_cmp}
 use Rattle.star_common.proofs.Members.{at_each, contains_here, contains_later, from_contains_map, of_each}
 use Rattle.star_program.specs.{declared.key.KeyValue.KeyValue, Keys.key_value_cmp}
-use Rattle.star_group.specs.BaseKeys.{key_eq}
-use Rattle.star_group.proofs.GroupKeys.{key_decides, key_equiv}
-use Rattle.star_outcome.specs.Private.RowOrder.{all_sorts, row_order}
-use Rattle.star_outcome.proofs.RowOrders.{AreAlike, row_total, rows_level, same_order}
+use Rattle.star_group.{specs.BaseKeys.key_eq, proofs.GroupKeys.{key_decides, key_equiv}}
+use Rattle.star_outcome.{specs.Private.RowOrder.{all_sorts, row_order}, proofs.RowOrders.{AreAlike, row_total, rows_level, same_order}}
 
 -- what a sort by a closure ensures, where each call answers by an order
 pub sorted_by_answers : {X : Type 0} (R : X → X → Ordering) → IsTotalOrder R
@@ -27,9 +21,8 @@ sorted_by_answers R order {g = g} {f = f} xs up answers =
 
 -- a list that ascends by one order, mapped: it ascends by another that agrees with the first
 pub sorted_mapped : {X Y : Type 0} (f : X → Y) (R : X → X → Ordering) (S : Y → Y → Ordering)
-    (xs : List X)
-    → ((a b : X) → Contains xs a → Contains xs b → S (f a) (f b) ≡ R a b) → IsStrictlySortedBy R xs
-    → IsStrictlySortedBy S (map f xs)
+    (xs : List X) → ((a b : X) → Contains xs a → Contains xs b → S (f a) (f b) ≡ R a b)
+    → IsStrictlySortedBy R xs → IsStrictlySortedBy S (map f xs)
 unfolding IsStrictlySortedBy
 sorted_mapped f R S [] agree up = tt
 sorted_mapped f R S (x ∷ xs) agree up = (
@@ -96,8 +89,7 @@ strictly R order (row ∷ rows) level up apart =
         ∙ told)
 
 pub sorted_rows : (sorts : List SortKey) (count : ℕ) (old new : List (Row KeyValue)) → AreApart old
-    → ((a b : Row KeyValue) → Contains old a → Contains old b
-    → AreAlike count a b)
+    → ((a b : Row KeyValue) → Contains old a → Contains old b → AreAlike count a b)
     → IsPermutation old new → IsSortedBy (λ a b. is_lt (row_order (all_sorts sorts count) a b)) new
     → AreInOrder key_value_cmp sorts new
 sorted_rows sorts count old new apart alike moved up =

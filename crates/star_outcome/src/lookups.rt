@@ -12,9 +12,9 @@ use star_catalogue::Catalogue;
 use star_program::{Edge, Text, Value};
 use star_schema::{ColumnId, TableId, is_text};
 
-/// The place of an edge of a text among the texts of a column.
+/// The position of an edge of a text among the texts of a column.
 #[tactic(auto, using(crate::proofs::Found::kind_text))]
-pub fn place(catalogue: &Catalogue, edge: Edge, column: ColumnId, text: &Text) -> Value
+pub fn edge_index(catalogue: &Catalogue, edge: Edge, column: ColumnId, text: &Text) -> Value
     requires { world.is_text column ≡ true }
     ensures { result ≡ Place column (world.edge_of (world_of catalogue.now) edge column text.now) }
 {
@@ -27,8 +27,7 @@ pub fn place(catalogue: &Catalogue, edge: Edge, column: ColumnId, text: &Text) -
 /// A column's value in a row, from 0.
 pub fn load(catalogue: &Catalogue, column: ColumnId, row: u32) -> Value
     requires { row < length (rows_in catalogue.now (schema.table_of column)) }
-    ensures value { result
-        ≡ loaded (world_of catalogue.now) column row (world.is_text column) }
+    ensures value { result ≡ loaded (world_of catalogue.now) column row (world.is_text column) }
     ensures sound { IsSoundValue catalogue.now result }
 {
     if is_text(column) {

@@ -39,8 +39,7 @@ fn empty_stores<S: GroupStore>(
     ranges: &[Vec<Interval>],
 ) -> Result<Vec<S>, AllocError>
     requires { All IsSmall groups.now }
-    ensures { IfOk result
-        (λ stores. (parts : Declared) → parts.groups ≡ groups.now
+    ensures { IfOk result (λ stores. (parts : Declared) → parts.groups ≡ groups.now
         → AreStores S.group S.has parts stores.items empty_state.updates_of) }
 {
     let mut stores = Vec::with_capacity(alloc, groups.len())?;

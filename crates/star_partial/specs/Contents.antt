@@ -1,17 +1,15 @@
 -- The contents of a partial.
-use Rattle.std.specs.Prelude.{◌≡◌, ◌<◌, ◌^◌, ◌≤ℤ◌, ℕ, List, All, IsTrue, IfSome, Option, Some, None, length, pos, slice_get}
-use Rattle.std.specs.{List.AllZip}
+use Rattle.std.specs.{Prelude.{◌≡◌, ◌<◌, ◌^◌, ◌≤ℤ◌, ℕ, List, All, IsTrue, IfSome, Option, Some, None, length, pos, slice_get}, List.AllZip}
 use Rattle.star_interval.specs.{Range.FitsI64, Range.Range, Range.only, Interval.range_of, declared.Interval.Interval}
 use Rattle.star_schema.specs.{declared.column.ColumnId.ColumnId, declared.column.Kind.Kind, declared.table.TableId.TableId, Schema.index_of, Schema.kind_of, Sizes.size_of}
 use Rattle.star_program.specs.{declared.outcome.Cell.Cell, declared.outcome.Outcome.Outcome}
 use Rattle.star_report.specs.Columns.{is_field}
-use Rattle.star_partial.specs.{declared.partial.ColumnKind.ColumnKind, declared.partial.ColumnKind.TheVariants.NumberKey, declared.partial.ColumnKind.TheVariants.TextKey, declared.partial.ColumnKind.TheVariants.Total, declared.partial.Partial.Partial, declared.partial.Span.Span}
-use Rattle.star_partial.specs.{Numbers.IsWide}
+use Rattle.star_partial.specs.{declared.partial.ColumnKind.ColumnKind, declared.partial.ColumnKind.TheVariants.{NumberKey, TextKey, Total}, declared.partial.Partial.Partial, declared.partial.Span.Span, Numbers.IsWide}
 use Rattle.star_schema.specs.declared.column.Kind.TheVariants as kind
 use Rattle.star_program.specs.declared.outcome.Cell.TheVariants as cell
 
--- a digest of the dimensions, the span of lineorder's keys, the row counts of five tables, the bounds
--- of their columns, and the outcome of the plain program, if it isn't refused
+-- a digest of the dimensions, the span of lineorder's keys, the row counts of five tables, the
+-- bounds of their columns, and the outcome of the plain program, if it isn't refused
 pub record Contents : Type 0 where
   pub digest : List ℕ
   pub span : Option Span

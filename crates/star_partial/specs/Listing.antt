@@ -1,6 +1,5 @@
 -- The listing of five tables: the row count of each, and the bounds of its numeric columns.
-use Rattle.std.specs.Prelude.{◌++◌, ℕ, ℤ, List, [], codes, decimal}
-use Rattle.std.specs.{Fmt.signed_decimal, List.flat_map}
+use Rattle.std.specs.{Prelude.{◌++◌, ℕ, ℤ, List, [], codes, decimal}, Fmt.signed_decimal, List.flat_map}
 use Rattle.star_interval.specs.Range.{Range}
 use Rattle.star_schema.specs.{declared.column.ColumnId.ColumnId, declared.column.Kind.Kind, declared.table.TableId.TableId, declared.table.TheConstants.TABLES, Schema.column_name, Schema.columns_of, Schema.kind_of, Schema.table_name}
 use Rattle.star_schema.specs.declared.column.Kind.TheVariants as kind

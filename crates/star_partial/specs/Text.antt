@@ -1,6 +1,5 @@
 -- The text of a partial.
-use Rattle.std.specs.Prelude.{◌++◌, ℕ, List, Option, Some, None, codes, decimal, length}
-use Rattle.std.specs.{Fmt.signed_decimal}
+use Rattle.std.specs.{Prelude.{◌++◌, ℕ, List, Option, Some, None, codes, decimal, length}, Fmt.signed_decimal}
 use Rattle.hex.specs.Hex.{encode_lower}
 use Rattle.star_program.specs.declared.outcome.Outcome.{Outcome}
 use Rattle.star_report.specs.Report.{report_text}

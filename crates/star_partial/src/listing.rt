@@ -1,7 +1,6 @@
 // The listing of five tables.
 
-ghost use Rattle.std.specs.Prelude.{◌≡◌, ◌++◌, IfOk, OnOk, string_bytes};
-ghost use Rattle.std.specs.{List.flat_map};
+ghost use Rattle.std.specs.{Prelude.{◌≡◌, ◌++◌, IfOk, OnOk, string_bytes}, List.flat_map};
 ghost use Rattle.star_interval.specs.Interval.{range_of};
 ghost use Rattle.star_schema.specs.{Schema.columns_of, Schema.kind_of, Sizes.size_of};
 ghost use Rattle.star_partial.specs.{Contents.bounds_at, Listing.column_text, Listing.listing_text, Listing.table_text};
@@ -44,13 +43,12 @@ fn push_columns(
     bounds: &[Interval; 58],
     table: TableId,
 ) -> Result<(), AllocError>
-    ensures { OnOk result (string_bytes text.new
-        ≡ string_bytes text.old
+    ensures { OnOk result (string_bytes text.new ≡ string_bytes text.old
         ++ flat_map (λ column. column_text (bounds_at bounds.now) column (kind_of column))
         (columns_of table)) }
 {
-    for place in 0..width(table) {
-        push_column(text, bounds, column_at(table, place))?;
+    for index in 0..width(table) {
+        push_column(text, bounds, column_at(table, index))?;
     }
     Ok(())
 }

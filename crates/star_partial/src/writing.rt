@@ -1,8 +1,7 @@
 // The text of a partial, written.
 
 ghost use Rattle.std.specs.Prelude.{◌≡◌, ◌++◌, Some, IfOk, OnOk, string_bytes};
-ghost use Rattle.star_partial.specs.Contents.{contents_of};
-ghost use Rattle.star_partial.specs.Text.{digest_line, head_text, partial_text, query_text, rows_line, run_text, span_line};
+ghost use Rattle.star_partial.specs.{Contents.contents_of, Text.{digest_line, head_text, partial_text, query_text, rows_line, run_text, span_line}};
 
 use crate::counts::counts_text;
 use crate::listing::list_tables;

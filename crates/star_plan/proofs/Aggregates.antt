@@ -1,11 +1,8 @@
 -- The names of the aggregates, item by item.
-use Rattle.std.proofs.Common.{◌≡◌, ◌∙◌, sym, ap, ◌+◌, ◌<◌, ℕ, zero, suc, Bool, ◌||◌, if◌then◌else◌, List, [], ◌∷◌, ◌++◌, Some, None, take, drop, get_or, length, map, arith, refl}
-use Rattle.std.proofs.{Math.Seq.take-append_seam, lemmas.List.drop-map, lemmas.List.get_or-map, lemmas.List.length-append, lemmas.List.length-map, lemmas.List.length-take-le, lemmas.List.take-map}
+use Rattle.std.proofs.{Common.{◌≡◌, ◌∙◌, sym, ap, ◌+◌, ◌<◌, ℕ, zero, suc, Bool, ◌||◌, if◌then◌else◌, List, [], ◌∷◌, ◌++◌, Some, None, take, drop, get_or, length, map, arith, refl}, Math.Seq.take-append_seam, lemmas.List.{drop-map, get_or-map, length-append, length-map, length-take-le, take-map}}
 use Rattle.star_query.specs.{Limits.aggregates_in, Tree.Aggregate, Tree.Item, Tree.Name, Tree.aggregate, Tree.plain}
 use Rattle.star_plan.specs.{declared.fault.PlanFault.TheVariants.DuplicateAlias, declared.tree.Aggregate.Aggregate as Named, Private.Stages.item_column, Resolved.items_from, Resolved.option_both}
-use Rattle.star_plan.specs.{Faults.item_fault, Faults.item_fault_after, Private.Stages.alias_fault, Names.has_name, Views.names_view, Private.Answers.IsNamedAt}
-use Rattle.star_plan.specs.Naming.{name_of_aggregate, aggregate_names, has_text, name_place, names_from}
-use Rattle.star_plan.proofs.Viewed.{BesideSoFar, beside_passed}
+use Rattle.star_plan.{specs.Faults.{item_fault, item_fault_after}, specs.Private.Stages.alias_fault, specs.Names.has_name, specs.Views.names_view, specs.Private.Answers.IsNamedAt, specs.Naming.{name_of_aggregate, aggregate_names, has_text, name_offset, names_from}, proofs.Viewed.{BesideSoFar, beside_passed}}
 
 names_split : (n : ℕ) (items : List Item) (i : ℕ) (x : Item) → i < length items
     → x ≡ get_or items i x
@@ -45,8 +42,7 @@ items_next groups before (aggregate a) items = refl
 -- ---- the same of the code's items
 
 at_viewed : {X Y : Type 0} (v : X → Y) (xs : List X) (i : ℕ) (x : X) → i < length xs
-    → x ≡ get_or xs i x
-    → v x ≡ get_or (map v xs) i (v x)
+    → x ≡ get_or xs i x → v x ≡ get_or (map v xs) i (v x)
 at_viewed v [] i x within at = absurd (omega arith)
 at_viewed v (y ∷ ys) zero x within at = ap v at
 at_viewed v (y ∷ ys) (suc i) x within at = at_viewed v ys i x (omega arith) at
@@ -93,15 +89,12 @@ module _ {X : Type 0} (v : X → Item) (items : List X) (i : ℕ) (x : X) (names
 
 -- ---- an aggregate's name beside those before it
 
-pub alias_told : (groups : List Name) (aggregates : List Named) (place : ℕ) (a : Aggregate)
-    (own : Named)
-    (name : List ℕ) (taken : Bool) (at : ℕ)
-    → place < length aggregates
-    → get_or (names_view aggregates) place [] ≡ name_of_aggregate (place + 1) a
-    → name ≡ (get_or aggregates place own).name.items
-    → taken ≡ (has_text (names_view (take place aggregates)) name || has_name groups name)
-    → at ≡ name_place a
-    → (if taken then Some (DuplicateAlias at) else None)
-    ≡ alias_fault groups (take place (names_view aggregates)) a
-alias_told groups aggregates place a own name taken at within named is tested placed =
+pub alias_told : (groups : List Name) (aggregates : List Named) (index : ℕ) (a : Aggregate)
+    (own : Named) (name : List ℕ) (taken : Bool) (at : ℕ) → index < length aggregates
+    → get_or (names_view aggregates) index [] ≡ name_of_aggregate (index + 1) a
+    → name ≡ (get_or aggregates index own).name.items
+    → taken ≡ (has_text (names_view (take index aggregates)) name || has_name groups name)
+    → at ≡ name_offset a → (if taken then Some (DuplicateAlias at) else None)
+    ≡ alias_fault groups (take index (names_view aggregates)) a
+alias_told groups aggregates index a own name taken at within named is tested placed =
     grind (arith, take-map, length-take-le, length-map, get_or-map)

@@ -1,7 +1,5 @@
 -- No element twice, where each is asked beside those before it.
-use Rattle.std.proofs.Common.{◌≡◌, Bool, true, false, if◌then◌else◌, List, [], ◌∷◌, ◌++◌, Option, Some, None, refl, arith}
-use Rattle.std.specs.{List.AllByRecursion, List.IsDistinct, List.list_any, Option.is_none, Option.option_or}
-use Rattle.std.proofs.lemmas.{Bool.or_from, Bool.or_parts, List.Folds.list_any-append}
+use Rattle.std.{proofs.Common.{◌≡◌, Bool, true, false, if◌then◌else◌, List, [], ◌∷◌, ◌++◌, Option, Some, None, refl, arith}, specs.List.{AllByRecursion, IsDistinct, list_any}, specs.Option.{is_none, option_or}, proofs.lemmas.Bool.{or_from, or_parts}, proofs.lemmas.List.Folds.list_any-append}
 use Rattle.star_common.proofs.Firsts.{or_none}
 use Rattle.star_plan.specs.{First.first_after, WellNamed.IsThere}
 

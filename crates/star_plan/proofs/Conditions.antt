@@ -1,16 +1,9 @@
 -- A query is well named exactly where it has no fault.
-use Rattle.std.proofs.Common.{◌≡◌, ◌∙◌, sym, ap, subst, ℕ, ◌+◌, ◌≤◌, Bool, true, false, ◌||◌, if◌then◌else◌, List, [], ◌∷◌, ◌++◌, Option, Some, None, length, append-nil, arith, refl}
-use Rattle.std.proofs.{lemmas.Bool.or_from, lemmas.Bool.or_parts}
-use Rattle.std.specs.{List.AllByRecursion, List.IsDistinct, Option.is_none, Option.option_or}
-use Rattle.star_common.proofs.Firsts.{or_none}
+use Rattle.std.{proofs.Common.{◌≡◌, ◌∙◌, sym, ap, subst, ℕ, ◌+◌, ◌≤◌, Bool, true, false, ◌||◌, if◌then◌else◌, List, [], ◌∷◌, ◌++◌, Option, Some, None, length, append-nil, arith, refl}, proofs.lemmas.Bool.{or_from, or_parts}, specs.List.{AllByRecursion, IsDistinct}, specs.Option.{is_none, option_or}}
+use Rattle.star_common.{proofs.Firsts.or_none, specs.First.first_answer}
 use Rattle.star_schema.specs.{declared.table.TableId.TheVariants.Lineorder, declared.column.ColumnId.ColumnId, Schema.table_name, Schema.table_of}
-use Rattle.star_common.specs.First.{first_answer}
 use Rattle.star_query.specs.Tree.{Item, Name, Tree, aggregate, plain}
-use Rattle.star_plan.specs.Faults.{aggregates_fault, fact_fault, group_fault, item_fault, item_fault_after, key_fault, use_kind_fault, missing_fault, pair_fault, plan_fault, scope_fault, from_table_fault}
-use Rattle.star_plan.specs.WellNamed.{IsThere, IsWellNamed, is_grouped, is_in_from, is_reached, same_name, same_text}
-use Rattle.star_plan.specs.{declared.fault.PlanFault.PlanFault, Joins.where_pairs, First.first_after, First.first_beside, Names.has_name, Names.table_at, Uses.uses_of, Naming.name_of_aggregate, Naming.aggregate_names, Naming.has_text, Naming.names_from, Private.Stages.order_fault}
-use Rattle.star_plan.proofs.Apart.{AreApart, IsFresh, apart_first, apart_from, apart_more, apart_rest, apart_to, each, each_after, each_two, found_known, found_none, none_or, some_from, some_to}
-use Rattle.star_plan.proofs.{Known.named_of, Known.scope_known, KeptJoins.are_apart, KeptJoins.pair_none, KeptJoins.same_join, Whole.parts}
+use Rattle.star_plan.{specs.Faults.{aggregates_fault, fact_fault, group_fault, item_fault, item_fault_after, key_fault, use_kind_fault, missing_fault, pair_fault, plan_fault, scope_fault, from_table_fault}, specs.WellNamed.{IsThere, IsWellNamed, is_grouped, is_in_from, is_reached, same_name, same_text}, specs.declared.fault.PlanFault.PlanFault, specs.Joins.where_pairs, specs.First.{first_after, first_beside}, specs.Names.{has_name, table_at}, specs.Uses.uses_of, specs.Naming.{name_of_aggregate, aggregate_names, has_text, names_from}, specs.Private.Stages.order_fault, proofs.Apart.{AreApart, IsFresh, apart_first, apart_from, apart_more, apart_rest, apart_to, each, each_after, each_two, found_known, found_none, none_or, some_from, some_to}, proofs.Known.{named_of, scope_known}, proofs.KeptJoins.{are_apart, pair_none, same_join}, proofs.Whole.parts}
 
 none_from : {A : Type 0} (b : Bool) (x : A) → b ≡ true → (if b then None else Some x) ≡ None
 none_from true x e = refl

@@ -1,6 +1,5 @@
 -- What the exit of a `?` returns.
-use Rattle.std.proofs.Common.{◌≡◌, inr, sym, Option, Some, Result, Ok, Err, ap}
-use Rattle.std.specs.Result.{IsErrAnd, result_err}
+use Rattle.std.{proofs.Common.{◌≡◌, inr, sym, Option, Some, Result, Ok, Err, ap}, specs.Result.{IsErrAnd, result_err}}
 use Rattle.star_plan.specs.{declared.fault.PlanFault.PlanFault, Private.Answers.Tells}
 
 pub error_is : {T : Type 0} (r : Result T PlanFault) (e : PlanFault) → IsErrAnd r (λ y. y ≡ e)

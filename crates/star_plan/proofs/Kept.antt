@@ -1,16 +1,11 @@
 -- The plan of a well named query within the limits is sound and within the limits.
-use Rattle.std.proofs.Common.{◌≡◌, ◌∙◌, sym, ap, subst, ◌+◌, ◌<◌, ◌≤◌, ◌^◌, true, List, [], ◌∷◌, Option, Some, None, length, arith}
-use Rattle.std.specs.List.{list_all, sum_by}
-use Rattle.std.proofs.lemmas.List.Sums.{sum_by-cons}
-use Rattle.star_plan.proofs.{Conditions.some_there, Whole.conjuncts_there, Whole.keys_there, Whole.measures_there, Whole.parts, KeptJoins.at_most_four, KeptJoins.where_foreign, KeptSpelling.measures_spelled, KeptSpelling.names_spelled, KeptSpelling.where_spelled}
+use Rattle.std.{proofs.Common.{◌≡◌, ◌∙◌, sym, ap, subst, ◌+◌, ◌<◌, ◌≤◌, ◌^◌, true, List, [], ◌∷◌, Option, Some, None, length, arith}, specs.List.{list_all, sum_by}, proofs.lemmas.List.Sums.sum_by-cons}
+use Rattle.star_plan.{proofs.Conditions.some_there, proofs.Whole.{conjuncts_there, keys_there, measures_there, parts}, proofs.KeptJoins.{at_most_four, where_foreign}, proofs.KeptSpelling.{measures_spelled, names_spelled, where_spelled}, specs.Joins.{is_foreign, joins_of, where_pairs}, specs.Meaning.Plan, specs.Names.column_at, specs.Naming.{aggregate_names, resolved_key}, specs.Faults.plan_fault, specs.Resolved.IsResolved, specs.Limits.IsPlanWithinLimits, specs.Spelled.IsSpelledPlan, specs.Sound.{are_distinct, condition_is_sound, in_scope, is_group_column, measure_is_sound, IsSoundPlan}, proofs.KeptCounts.{all_counted, items_counted, items_there, measures_counted, names_counted, operands_counted, sorts_there, where_comparisons}}
 use Rattle.star_schema.specs.Schema.{table_of}
 use Rattle.star_query.specs.Tree as tree
 use Rattle.star_query.specs.{Tree.Tree, Spelled.is_name}
 use Rattle.star_query.specs.Limits as asked
 use Rattle.star_query.specs.Spelled as spelled
-use Rattle.star_plan.specs.{Joins.is_foreign, Joins.joins_of, Joins.where_pairs, Meaning.Plan, Names.column_at, Naming.aggregate_names, Naming.resolved_key, Faults.plan_fault, Resolved.IsResolved, Limits.IsPlanWithinLimits, Spelled.IsSpelledPlan}
-use Rattle.star_plan.specs.Sound.{are_distinct, condition_is_sound, in_scope, is_group_column, measure_is_sound, IsSoundPlan}
-use Rattle.star_plan.proofs.KeptCounts.{all_counted, items_counted, items_there, measures_counted, names_counted, operands_counted, sorts_there, where_comparisons}
 
 pub same_some : {A : Type 0} (o : Option A) (x y : A) → o ≡ Some x → o ≡ Some y → x ≡ y
 same_some o x y e f = cc

@@ -1,18 +1,12 @@
 -- The counts of a plan are those of its query.
-use Rattle.std.proofs.Common.{◌≡◌, ◌∙◌, sym, ap, subst, ℕ, ◌+◌, ◌<◌, ◌≤◌, true, List, [], ◌∷◌, ◌++◌, Option, Some, None, length, option_map, arith, refl}
-use Rattle.std.specs.{List.list_all, List.sum_by, Option.option_or}
-use Rattle.std.proofs.lemmas.{Bool.and_from, Bool.lt-ltb, List.Quantifiers.position-Some, List.Sums.sum_by-append, List.Sums.sum_by-cons}
+use Rattle.std.{proofs.Common.{◌≡◌, ◌∙◌, sym, ap, subst, ℕ, ◌+◌, ◌<◌, ◌≤◌, true, List, [], ◌∷◌, ◌++◌, Option, Some, None, length, option_map, arith, refl}, specs.List.{list_all, sum_by}, specs.Option.option_or, proofs.lemmas.Bool.{and_from, lt-ltb}, proofs.lemmas.List.Quantifiers.position-Some, proofs.lemmas.List.Sums.{sum_by-append, sum_by-cons}, proofs.lemmas.Grind.common_steps}
 use Rattle.star_schema.specs.declared.{column.ColumnId.ColumnId, group.GroupColumn.GroupColumn}
 use Rattle.star_schema.specs.declared.group.GroupColumn.TheVariants as group
 use Rattle.star_schema.specs.declared.group.SortKey as sorted
 use Rattle.star_query.specs.Tree as tree
-use Rattle.star_query.specs.Tree.{Item, Name, SortKey, Expression, column, or, and, not, test, compare, between, Measure}
+use Rattle.star_query.specs.{Tree.{Item, Name, SortKey, Expression, column, or, and, not, test, compare, between, Measure}, Limits.{comparisons_of, measure_operands, operands_of}}
 use Rattle.star_query.specs.Limits as asked
-use Rattle.star_plan.specs.{Meaning.RowCondition, Naming.names_from, Naming.aggregate_column, Naming.key_column, Naming.resolved_key, Sound.is_group_column, Private.Stages.resolved_measures}
-use Rattle.star_plan.specs.Resolved.{conjuncts_of, items_from, option_all, resolved_condition, resolved_expression, resolved_measure, where_conjuncts}
-use Rattle.star_query.specs.Limits.{comparisons_of, measure_operands, operands_of}
-use Rattle.star_plan.proofs.{Options.both_gave, Options.first_or_second, Options.mapped_gave, Related.condition_related, Related.expression_related}
-use Rattle.std.proofs.lemmas.Grind.{common_steps}
+use Rattle.star_plan.{specs.Meaning.RowCondition, specs.Naming.{names_from, aggregate_column, key_column, resolved_key}, specs.Sound.is_group_column, specs.Private.Stages.resolved_measures, specs.Resolved.{conjuncts_of, items_from, option_all, resolved_condition, resolved_expression, resolved_measure, where_conjuncts}, proofs.Options.{both_gave, first_or_second, mapped_gave}, proofs.Related.{condition_related, expression_related}}
 
 abbrev sorted_by : GroupColumn → SortKey → sorted.SortKey
 sorted_by c k = record { column = c; direction = k.direction }
@@ -61,8 +55,7 @@ conjuncts_comparisons (tree.test (tree.comparison (tree.between n from upto))) x
     lone_comparisons (tree.test (tree.comparison (tree.between n from upto))) xs e
 
 pub where_comparisons : (o : Option (tree.Condition tree.Test)) (xs : List RowCondition)
-    → where_conjuncts o ≡ Some xs
-    → sum_by comparisons_of xs ≤ asked.where_comparisons (o)
+    → where_conjuncts o ≡ Some xs → sum_by comparisons_of xs ≤ asked.where_comparisons (o)
 where_comparisons None xs e = let none : [] ≡ xs = cc in
     subst (λ ys. sum_by comparisons_of ys ≤ 0) none (omega arith)
 where_comparisons (Some q) xs e = conjuncts_comparisons q xs e
@@ -138,8 +131,7 @@ aggregate_there : (keys : ℕ) (names : List (List ℕ)) (text : List ℕ) (c : 
 aggregate_there keys names text c e = grind (arith, mapped_gave, position-Some, lt-ltb)
 
 pub items_there : (groups : List Name) (before most : ℕ) (is' : List Item) (cs : List GroupColumn)
-    → before + sum_by asked.aggregates_in is' ≤ most
-    → items_from groups before is' ≡ Some cs
+    → before + sum_by asked.aggregates_in is' ≤ most → items_from groups before is' ≡ Some cs
     → list_all (is_group_column (length groups) most) cs ≡ true
 items_there groups before most [] cs few e = let none : [] ≡ cs = cc in
     subst (λ ds. list_all (is_group_column (length groups) most) ds ≡ true) none refl

@@ -1,14 +1,9 @@
 -- The joins of a well named query: each by a foreign key, and each of another dimension.
 use Rattle.std.proofs.Common.{◌≡◌, ◌∙◌, sym, ap, subst, ℕ, ◌+◌, ◌≤◌, Bool, true, false, not as negated, if◌then◌else◌, inl, inr, List, [], ◌∷◌, ◌++◌, Option, Some, None, length, arith, refl}
-use Rattle.std.specs.{List.AllByRecursion, List.IsDistinct, List.list_all, List.list_any, Option.option_map_or}
-use Rattle.std.proofs.lemmas.Bool.{and_from, and_parts, not-true, not_from_false}
-use Rattle.star_schema.specs.{declared.table.TableId.TableId, declared.column.ColumnId.ColumnId, Schema.is_table, Schema.table_of}
-use Rattle.star_schema.specs.declared.table.TableId.TheVariants.{Date, Customer, Supplier, Part, Lineorder}
-use Rattle.star_schema.proofs.Same.{table_same}
+use Rattle.std.{specs.List.{AllByRecursion, IsDistinct, list_all, list_any}, specs.Option.option_map_or, proofs.lemmas.Bool.{and_from, and_parts, not-true, not_from_false}}
+use Rattle.star_schema.{specs.declared.table.TableId.TableId, specs.declared.column.ColumnId.ColumnId, specs.Schema.{is_table, table_of}, specs.declared.table.TableId.TheVariants.{Date, Customer, Supplier, Part, Lineorder}, proofs.Same.table_same}
 use Rattle.star_query.specs.Tree.{Condition, Test, and, comparison, or, not, pair, test}
-use Rattle.star_plan.specs.{declared.tree.Join.Join, Names.column_at, Faults.pair_fault, Sound.are_distinct, WellNamed.IsThere}
-use Rattle.star_plan.specs.Joins.{Pair, is_foreign, is_joined, join_by, join_of, joins, joins_of, pairs_of, where_pairs}
-use Rattle.star_plan.proofs.{Apart.IsFresh, Apart.found_known, Apart.found_none, Options.first_or_second}
+use Rattle.star_plan.{specs.declared.tree.Join.Join, specs.Names.column_at, specs.Faults.pair_fault, specs.Sound.are_distinct, specs.WellNamed.IsThere, specs.Joins.{Pair, is_foreign, is_joined, join_by, join_of, joins, joins_of, pairs_of, where_pairs}, proofs.Apart.{IsFresh, found_known, found_none}, proofs.Options.first_or_second}
 
 -- ---- each by a foreign key
 
@@ -102,8 +97,7 @@ others_to j (q ∷ ps) all none =
     ∙ and_from (is_other j all.0.0) (list_all (is_other j) (joins_of ps))
     (not_from_false _ (sym (ap (of_one (Some j)) all.0.1) ∙ none.0)) (others_to j ps all.1 none.1)
 
-others_from : (j : Join) (ps : List Pair) → AreThere ps
-    → list_all (is_other j) (joins_of ps) ≡ true
+others_from : (j : Join) (ps : List Pair) → AreThere ps → list_all (is_other j) (joins_of ps) ≡ true
     → AllByRecursion (λ q. of_one (Some j) q.join ≡ false) ps
 others_from j [] all e = tt
 others_from j (q ∷ ps) all e =
@@ -179,8 +173,7 @@ all_counted (j ∷ js) e = let both = and_parts _ _ e in
   where
     go : (t : TableId) → table_of j.key ≡ t → is_foreign j.foreign j.key ≡ true
         → length js ≡ joins_to Date js + joins_to Customer js + joins_to Supplier js
-        + joins_to Part js
-        → length (j ∷ js) ≡ joins_to Date (j ∷ js) + joins_to Customer (j ∷ js)
+        + joins_to Part js → length (j ∷ js) ≡ joins_to Date (j ∷ js) + joins_to Customer (j ∷ js)
         + joins_to Supplier (j ∷ js) + joins_to Part (j ∷ js)
     go Date h foreign rest = rw h (omega arith)
     go Customer h foreign rest = rw h (omega arith)

@@ -1,17 +1,12 @@
 -- The names, numbers and texts of a plan are those of its query, or names made of a function's word
 -- and a number.
-use Rattle.std.proofs.Common.{◌≡◌, ◌∙◌, sym, ap, ℕ, ◌+◌, ◌<◌, ◌≤◌, ◌^◌, Bool, true, ◌&&◌, List, [], ◌∷◌, ◌++◌, Option, Some, None, length, option_map, arith, refl, length-append}
-use Rattle.std.specs.{Prelude.decimal, List.list_all, Str.Parse.AllDigits}
-use Rattle.std.proofs.lemmas.{Fmt.decimal_is_IsNumeral, Fmt.length-decimal-le, Str.Parse.tells_digits, Bool.and_from, Bool.and_parts, Bool.le-leb, Bool.or_right, List.Folds.list_all-append}
+use Rattle.std.{proofs.Common.{◌≡◌, ◌∙◌, sym, ap, ℕ, ◌+◌, ◌<◌, ◌≤◌, ◌^◌, Bool, true, ◌&&◌, List, [], ◌∷◌, ◌++◌, Option, Some, None, length, option_map, arith, refl, length-append}, specs.Prelude.decimal, specs.List.list_all, specs.Str.Parse.AllDigits, proofs.lemmas.Fmt.{decimal_is_IsNumeral, length-decimal-le}, proofs.lemmas.Str.Parse.tells_digits, proofs.lemmas.Bool.{and_from, and_parts, le-leb, or_right}, proofs.lemmas.List.Folds.list_all-append}
 use Rattle.star_schema.specs.{declared.column.ColumnId.ColumnId, Tables.Value}
 use Rattle.star_query.specs.declared.token.Fold.TheVariants as fold
 use Rattle.star_query.specs.Tree as tree
-use Rattle.star_query.specs.Tree.{Aggregate, Comparison, Item, Name, Expression, or, and, not, test, compare, between, Measure}
-use Rattle.star_query.specs.{Tokens.begins_with_letter, Tokens.is_letter, Tokens.is_word_byte, Spelled.is_name, Spelled.has_few_digits, Spelled.comparison_is_spelled}
+use Rattle.star_query.specs.{Tree.{Aggregate, Comparison, Item, Name, Expression, or, and, not, test, compare, between, Measure}, Tokens.{begins_with_letter, is_letter, is_word_byte}, Spelled.{is_name, has_few_digits, comparison_is_spelled}}
 use Rattle.star_query.specs.Spelled as asked
-use Rattle.star_plan.specs.{Meaning.RowCondition, Naming.name_of_aggregate, Naming.default_name, Naming.function_word, Naming.names_from, Spelled.condition_is_spelled, Spelled.expression_is_spelled, Spelled.measure_is_spelled, Spelled.value_is_spelled, Private.Stages.resolved_measures}
-use Rattle.star_plan.specs.Resolved.{conjuncts_of, resolved_condition, resolved_expression, resolved_measure, resolved_test, where_conjuncts}
-use Rattle.star_plan.proofs.{Options.both_gave, Options.mapped_gave, Related.condition_related, Related.expression_related}
+use Rattle.star_plan.{specs.Meaning.RowCondition, specs.Naming.{name_of_aggregate, default_name, function_word, names_from}, specs.Spelled.{condition_is_spelled, expression_is_spelled, measure_is_spelled, value_is_spelled}, specs.Private.Stages.resolved_measures, specs.Resolved.{conjuncts_of, resolved_condition, resolved_expression, resolved_measure, resolved_test, where_conjuncts}, proofs.Options.{both_gave, mapped_gave}, proofs.Related.{condition_related, expression_related}}
 
 -- ---- numbers and texts
 
@@ -63,8 +58,7 @@ condition_spelled =
 
 lone_spelled : (q : tree.Condition tree.Test) (xs : List RowCondition)
     → option_map (λ x. x ∷ []) (resolved_condition q) ≡ Some xs
-    → asked.condition_is_spelled q ≡ true
-    → list_all condition_is_spelled xs ≡ true
+    → asked.condition_is_spelled q ≡ true → list_all condition_is_spelled xs ≡ true
 lone_spelled q xs e good = grind (arith, mapped_gave, and_from, condition_spelled)
 
 conjuncts_spelled : (q : tree.Condition tree.Test) (xs : List RowCondition)
@@ -104,8 +98,7 @@ digits_spelled (d ∷ ds) all =
 
 word_then_digits : (word ds : List ℕ) → begins_with_letter word ≡ true
     → list_all is_word_byte word ≡ true → length word ≤ 5 → list_all is_word_byte ds ≡ true
-    → length ds ≤ 20
-    → is_name (word ++ ds) ≡ true
+    → length ds ≤ 20 → is_name (word ++ ds) ≡ true
 unfolding is_name
 word_then_digits it ds begins word short digits few =
     grind (arith, length-append, and_from, begins, list_all-append, digits, le-leb)

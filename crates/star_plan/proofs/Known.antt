@@ -1,25 +1,14 @@
 -- The names of a well named query stand for something that is in scope and of the kind that is
 -- asked of it.
-use Rattle.std.proofs.Common.{◌≡◌, ◌∙◌, sym, ap, ◌+◌, ℕ, Bool, true, false, ◌&&◌, ◌||◌, if◌then◌else◌, List, [], ◌∷◌, ◌++◌, Option, Some, None, nat_eq, option_map, refl, arith}
-use Rattle.std.specs.{Cmp.Lexicographic.pointwise, Cmp.Lexicographic.same_text, List.AllByRecursion, List.list_all, List.list_any, Option.is_none}
-use Rattle.std.proofs.lemmas.{Bool.and_from, List.Folds.list_all-append}
-use Rattle.star_common.proofs.Firsts.{or_none}
-use Rattle.star_schema.specs.declared.{table.TableId.TableId, table.TableId.TheVariants.Lineorder, column.ColumnId.ColumnId, group.GroupColumn.GroupColumn}
+use Rattle.std.{proofs.Common.{◌≡◌, ◌∙◌, sym, ap, ◌+◌, ℕ, Bool, true, false, ◌&&◌, ◌||◌, if◌then◌else◌, List, [], ◌∷◌, ◌++◌, Option, Some, None, nat_eq, option_map, refl, arith}, specs.Cmp.Lexicographic.{pointwise, same_text}, specs.List.{AllByRecursion, list_all, list_any}, specs.Option.is_none, proofs.lemmas.Bool.and_from, proofs.lemmas.List.Folds.list_all-append}
+use Rattle.star_common.{proofs.Firsts.or_none, specs.First.first_answer}
+use Rattle.star_schema.{specs.declared.table.TableId.TableId, specs.declared.table.TableId.TheVariants.Lineorder, specs.declared.column.ColumnId.ColumnId, specs.declared.group.GroupColumn.GroupColumn, specs.Tables.kind_of_value, specs.Schema.{is_table, table_name, table_of}, proofs.NamesApart.table_by_name}
 use Rattle.star_schema.specs.declared.column.Kind.TheVariants as kind
 use Rattle.star_schema.specs.declared.group.GroupColumn.TheVariants as group
-use Rattle.star_schema.specs.{Tables.kind_of_value, Schema.is_table, Schema.table_name, Schema.table_of}
 use Rattle.star_schema.specs.declared.group.SortKey as sorted
-use Rattle.star_common.specs.First.{first_answer}
-use Rattle.star_schema.proofs.NamesApart.{table_by_name}
 use Rattle.star_query.specs.Tree as tree
 use Rattle.star_query.specs.Tree.{Item, Name, Expression, column, constant, add, sub, mul, or, and, not, test, compare, between, Measure, count, fold}
-use Rattle.star_plan.specs.{declared.tree.Join.Join, Names.column_at, Names.has_name, Names.is_of, Names.table_at, Names.table_called}
-use Rattle.star_plan.specs.{Uses.Use, Uses.expression_uses, Uses.measure_uses, Uses.where_uses, Private.Stages.condition_uses, Private.Stages.groups_uses, Private.Stages.items_uses, Private.Stages.resolved_measures, Naming.key_column}
-use Rattle.star_plan.specs.{WellNamed.is_grouped, WellNamed.is_in_from, WellNamed.is_reached, Joins.Pair, Joins.is_joined, Joins.joins_of, Joins.pairs_of, Joins.where_pairs}
-use Rattle.star_plan.proofs.{Apart.each, Sought.is_there, Sought.key_sought}
-use Rattle.star_plan.specs.Faults.{item_fault, use_kind_fault, missing_fault, scope_fault}
-use Rattle.star_plan.specs.Resolved.{conjuncts_of, where_conjuncts, items_from, option_all, option_both, resolved_condition, resolved_expression, resolved_measure}
-use Rattle.star_plan.specs.Sound.{condition_is_sound, expression_is_sound, in_scope, joins_table, measure_is_sound}
+use Rattle.star_plan.{specs.declared.tree.Join.Join, specs.Names.{column_at, has_name, is_of, table_at, table_called}, specs.Uses.{Use, expression_uses, measure_uses, where_uses}, specs.Private.Stages.{condition_uses, groups_uses, items_uses, resolved_measures}, specs.Naming.key_column, specs.WellNamed.{is_grouped, is_in_from, is_reached}, specs.Joins.{Pair, is_joined, joins_of, pairs_of, where_pairs}, proofs.Apart.each, proofs.Sought.{is_there, key_sought}, specs.Faults.{item_fault, use_kind_fault, missing_fault, scope_fault}, specs.Resolved.{conjuncts_of, where_conjuncts, items_from, option_all, option_both, resolved_condition, resolved_expression, resolved_measure}, specs.Sound.{condition_is_sound, expression_is_sound, in_scope, joins_table, measure_is_sound}}
 
 -- the table by its own name
 called : (t : TableId) → table_called (table_name t) ≡ Some t
@@ -187,8 +176,7 @@ module _ (tables : List Name) (js : List Join) (reach : Reaches tables js) where
       (condition_known (tree.test (tree.comparison (tree.between n from upto))) pairs good)
 
   pub where_known : (o : Option (tree.Condition tree.Test)) → AreJoins (where_pairs o)
-      → AreGood tables (where_uses o)
-      → Known (list_all (condition_is_sound js)) (where_conjuncts o)
+      → AreGood tables (where_uses o) → Known (list_all (condition_is_sound js)) (where_conjuncts o)
   where_known None pairs good = ([], refl, refl)
   where_known (Some q) pairs good = conjuncts_known q pairs good
 

@@ -1,7 +1,5 @@
 -- Both values of two options, or none.
-use Rattle.std.proofs.Common.{◌≡◌, ◌∙◌, sym, ap, subst, ◌+◌, ◌<◌, ◌≤◌, ◌⊎◌, inl, inr, ℕ, zero, suc, List, [], ◌∷◌, ◌++◌, Option, Some, None, drop, get_or, length, map, option_map, arith, append_assoc, append-nil, refl}
-use Rattle.std.specs.Option.{option_or}
-use Rattle.std.proofs.lemmas.List.{drop_all}
+use Rattle.std.{proofs.Common.{◌≡◌, ◌∙◌, sym, ap, subst, ◌+◌, ◌<◌, ◌≤◌, ◌⊎◌, inl, inr, ℕ, zero, suc, List, [], ◌∷◌, ◌++◌, Option, Some, None, drop, get_or, length, map, option_map, arith, append_assoc, append-nil, refl}, specs.Option.option_or, proofs.lemmas.List.drop_all}
 use Rattle.star_schema.specs.declared.column.ColumnId.{ColumnId}
 use Rattle.star_query.specs.declared.tree.{Comparison.Comparison, Condition.Condition}
 use Rattle.star_plan.specs.{Resolved.option_all, Resolved.option_both, Views.row_condition_view, WellNamed.IsThere}
@@ -51,19 +49,16 @@ some_with done y None = refl
 some_with done y (Some ys) = ap Some (sym (append_assoc done (y ∷ []) ys))
 
 pub all_there : {X A B : Type 0} (v : X → A) (f : A → Option B) (xs : List X) (i : ℕ) (x : X)
-    (done : List B)
-    → i < length xs → x ≡ get_or xs i x
+    (done : List B) → i < length xs → x ≡ get_or xs i x
     → with_rest done (option_all f (map v (drop i xs))) ≡ option_all f (map v xs)
-    → IsThere (option_all f (map v xs))
-    → IsThere (f (v x))
+    → IsThere (option_all f (map v xs)) → IsThere (f (v x))
 all_there v f xs i x done within at so_far there =
     left_there (λ y ys. y ∷ ys) (f (v x)) (option_all f (map v (drop (i + 1) xs)))
     (mapped_there (λ ys. done ++ ys) _
     (subst IsThere (sym (rw (drop_here xs i x within at) at so_far)) there))
 
 pub all_more : {X A B : Type 0} (v : X → A) (f : A → Option B) (xs : List X) (i : ℕ) (x : X)
-    (done : List B) (y : B)
-    → i < length xs → x ≡ get_or xs i x
+    (done : List B) (y : B) → i < length xs → x ≡ get_or xs i x
     → with_rest done (option_all f (map v (drop i xs))) ≡ option_all f (map v xs) → Some y ≡ f (v x)
     → with_rest (done ++ y ∷ []) (option_all f (map v (drop (i + 1) xs))) ≡ option_all f (map v xs)
 all_more v f xs i x done y within at so_far found =

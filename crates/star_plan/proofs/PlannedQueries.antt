@@ -1,8 +1,7 @@
 -- What is planned is sound, within limits and spelled as queries are.
 use Rattle.std.proofs.{Math.Logic.∥∥₁_elim, Props.props}
 use Rattle.star_query.proofs.MeantTrees.{meant_spelled_so, meant_within}
-use Rattle.star_plan.specs.{Limits.IsPlanWithinLimits, Meaning.Plan, Planned.IsPlanned, Sound.IsSoundPlan, Spelled.IsSpelledPlan}
-use Rattle.star_plan.proofs.{Conditions.no_fault, Kept.kept_sound, Kept.kept_spelled, Kept.kept_within}
+use Rattle.star_plan.{specs.Limits.IsPlanWithinLimits, specs.Meaning.Plan, specs.Planned.IsPlanned, specs.Sound.IsSoundPlan, specs.Spelled.IsSpelledPlan, proofs.Conditions.no_fault, proofs.Kept.{kept_sound, kept_spelled, kept_within}}
 
 sound_prop : (p : Plan) → IsProp (IsSoundPlan p)
 sound_prop p = hlevel props

@@ -1,12 +1,9 @@
 -- What a resolved expression or condition comes to, beside what the query's own comes to.
-use Rattle.std.proofs.Common.{◌≡◌, ℤ, Some, subst}
-use Rattle.std.specs.Prelude.{◌+ℤ◌, ◌-ℤ◌, ◌*ℤ◌}
+use Rattle.std.{proofs.Common.{◌≡◌, ℤ, Some, subst}, specs.Prelude.{◌+ℤ◌, ◌-ℤ◌, ◌*ℤ◌}}
 use Rattle.star_schema.specs.{declared.column.ColumnId.ColumnId, Tables.Value}
-use Rattle.star_query.specs.Leaves.{fold_expression, fold_condition}
+use Rattle.star_query.specs.{Leaves.{fold_expression, fold_condition}, Tree.{Comparison, Condition, Expression, Name, Test, column, constant, add, sub, mul, or, and, not, test}}
 use Rattle.star_query.specs.Tree as tree
-use Rattle.star_query.specs.Tree.{Comparison, Condition, Expression, Name, Test, column, constant, add, sub, mul, or, and, not, test}
-use Rattle.star_plan.specs.{Meaning.RowCondition, Names.column_at, Resolved.resolved_condition, Resolved.resolved_expression, Resolved.resolved_test}
-use Rattle.star_plan.proofs.Options.{both_gave, mapped_gave}
+use Rattle.star_plan.{specs.Meaning.RowCondition, specs.Names.column_at, specs.Resolved.{resolved_condition, resolved_expression, resolved_test}, proofs.Options.{both_gave, mapped_gave}}
 
 module _ {A : Type 0} (R : A → A → Type 0) (f : Name → A) (g : ColumnId → A) (z : ℤ → A)
     (by : (ℤ → ℤ → ℤ) → A → A → A)

@@ -1,7 +1,6 @@
 -- What a name of SELECT or ORDER BY stands for: it is there exactly where a test finds the name.
 use Rattle.std.proofs.Common.{◌≡◌, ◌∙◌, cond, ltb, ◌||◌, Bool, true, false, not as negated, if◌then◌else◌, ℕ, suc, ◌+◌, List, [], ◌∷◌, Option, Some, None, length, nat_eq, option_map, arith, refl}
-use Rattle.std.proofs.lemmas.Bool.{le-ltb, lt-ltb, ltb-false, ltb-true}
-use Rattle.std.specs.{Cmp.Lexicographic.pointwise, List.list_any, List.position, List.prefix_len, Option.is_some, Option.option_or}
+use Rattle.std.{proofs.lemmas.Bool.{le-ltb, lt-ltb, ltb-false, ltb-true}, specs.Cmp.Lexicographic.pointwise, specs.List.{list_any, position, prefix_len}, specs.Option.{is_some, option_or}}
 use Rattle.star_schema.specs.declared.group.GroupColumn.TheVariants as group
 use Rattle.star_query.specs.Tree.{Name}
 use Rattle.star_plan.specs.{Names.has_name, Naming.aggregate_column, Naming.has_text, Naming.key_column, WellNamed.IsThere}
@@ -30,22 +29,22 @@ any_within : {X : Type 0} (p : X → Bool) (xs : List X)
 any_within p [] = refl
 any_within p (x ∷ xs) = grind (arith, any_within p xs, ltb, negated, lt-ltb, ltb_next)
 
-place_sought : {X : Type 0} (p : X → Bool) (xs : List X) → is_some (position p xs) ≡ list_any p xs
-place_sought p xs = some_if _ (prefix_len (λ x. negated (p x)) xs) ∙ any_within p xs
+index_sought : {X : Type 0} (p : X → Bool) (xs : List X) → is_some (position p xs) ≡ list_any p xs
+index_sought p xs = some_if _ (prefix_len (λ x. negated (p x)) xs) ∙ any_within p xs
 
 pub key_sought : (groups : List Name) (text : List ℕ)
     → is_some (key_column groups text) ≡ has_name groups text
 unfolding has_name
 key_sought groups text =
-    some_mapped (λ place. group.Key place) (position (λ n. pointwise nat_eq n.text text) groups)
-    ∙ place_sought (λ n. pointwise nat_eq n.text text) groups
+    some_mapped (λ index. group.Key index) (position (λ n. pointwise nat_eq n.text text) groups)
+    ∙ index_sought (λ n. pointwise nat_eq n.text text) groups
 
 aggregate_sought : (names : List (List ℕ)) (text : List ℕ)
     → is_some (aggregate_column names text) ≡ has_text names text
 unfolding has_text
 aggregate_sought names text =
-    some_mapped (λ place. group.Aggregate place) (position (λ t. pointwise nat_eq t text) names)
-    ∙ place_sought (λ t. pointwise nat_eq t text) names
+    some_mapped (λ index. group.Aggregate index) (position (λ t. pointwise nat_eq t text) names)
+    ∙ index_sought (λ t. pointwise nat_eq t text) names
 
 pub order_sought : (groups : List Name) (names : List (List ℕ)) (text : List ℕ)
     → is_some (option_or (key_column groups text) (aggregate_column names text))
@@ -57,8 +56,7 @@ order_sought groups names text =
 -- ---- the fault of a name that isn't found
 
 pub found_told : {A F : Type 0} (o : Option A) (b : Bool) (x : A) (fault : F) → is_some o ≡ b
-    → Some x ≡ o
-    → None ≡ (if b then None else Some fault)
+    → Some x ≡ o → None ≡ (if b then None else Some fault)
 found_told o true x fault e is = refl
 found_told o false x fault e is = absurd (let wrong = rw (← is) at e in cc)
 

@@ -1,10 +1,7 @@
 -- Lists of the code, and what definitions see of their elements.
-use Rattle.std.proofs.Common.{◌≡◌, ◌∙◌, sym, ap, ℕ, zero, suc, ◌+◌, ◌<◌, ◌≤◌, ◌||◌, Bool, List, [], ◌∷◌, ◌++◌, Option, Some, None, Result, cond, not, drop, take, get_or, length, map, arith, append_assoc, append-nil, refl}
-use Rattle.std.specs.{List.list_any, List.position, List.position_or_len, Option.option_or, Result.IsErrAnd, Result.result_err}
-use Rattle.std.proofs.lemmas.List.{at_drop_all, length-map}
+use Rattle.std.{proofs.Common.{◌≡◌, ◌∙◌, sym, ap, ℕ, zero, suc, ◌+◌, ◌<◌, ◌≤◌, ◌||◌, Bool, List, [], ◌∷◌, ◌++◌, Option, Some, None, Result, cond, not, drop, take, get_or, length, map, arith, append_assoc, append-nil, refl}, specs.List.{list_any, position, position_or_len}, specs.Option.option_or, specs.Result.{IsErrAnd, result_err}, proofs.lemmas.List.{at_drop_all, length-map}}
 use Rattle.star_common.specs.First.{first_answer}
-use Rattle.star_plan.specs.{declared.fault.PlanFault.PlanFault, First.first_after, First.first_beside}
-use Rattle.star_plan.proofs.Exits.{error_is}
+use Rattle.star_plan.{specs.declared.fault.PlanFault.PlanFault, specs.First.{first_after, first_beside}, proofs.Exits.error_is}
 
 -- ---- which of them
 
@@ -13,14 +10,14 @@ pub any_viewed : {X Y : Type 0} (v : X → Y) (p : Y → Bool) (xs : List X)
 any_viewed v p [] = refl
 any_viewed v p (x ∷ xs) = ap (λ rest. p (v x) || rest) (any_viewed v p xs)
 
-place_or_length : {X Y : Type 0} (v : X → Y) (p : Y → Bool) (xs : List X)
+index_or_length : {X Y : Type 0} (v : X → Y) (p : Y → Bool) (xs : List X)
     → position_or_len (λ x. p (v x)) xs ≡ position_or_len p (map v xs)
-place_or_length v p [] = refl
-place_or_length v p (x ∷ xs) = ap (λ n. cond (not (p (v x))) (1 + n) 0) (place_or_length v p xs)
+index_or_length v p [] = refl
+index_or_length v p (x ∷ xs) = ap (λ n. cond (not (p (v x))) (1 + n) 0) (index_or_length v p xs)
 
 pub place_viewed : {X Y : Type 0} (v : X → Y) (p : Y → Bool) (xs : List X)
     → position (λ x. p (v x)) xs ≡ position p (map v xs)
-place_viewed v p xs = rw (← place_or_length v p xs, length-map xs v) refl
+place_viewed v p xs = rw (← index_or_length v p xs, length-map xs v) refl
 
 -- ---- the first answer of an element
 
@@ -29,8 +26,7 @@ abbrev pub AnswerSoFar : {X Y A : Type 0} (v : X → Y) (f : Y → Option A) →
 AnswerSoFar v f xs i = first_answer f (map v (drop i xs)) ≡ first_answer f (map v xs)
 
 answer_here : {X Y A : Type 0} (v : X → Y) (f : Y → Option A) (xs : List X) (i : ℕ) (d : X)
-    → i < length xs
-    → first_answer f (map v (drop i xs))
+    → i < length xs → first_answer f (map v (drop i xs))
     ≡ option_or (f (v (get_or xs i d))) (first_answer f (map v (drop (i + 1) xs)))
 unfolding first_answer
 answer_here v f [] i d within = absurd (omega arith)
@@ -91,9 +87,8 @@ after_here v f before (x ∷ xs) zero d within = rw append-nil refl
 after_here v f before (x ∷ xs) (suc i) d within =
     grind (arith, after_here v f (before ++ v x ∷ []) xs i d (omega arith), append_assoc)
 
-beside_here : {X Y A : Type 0} (v : X → Y) (f : List Y → Y → Option A) (xs : List X) (i : ℕ)
-    (d : X) → i < length xs
-    → first_after f (map v (take i xs)) (map v (drop i xs))
+beside_here : {X Y A : Type 0} (v : X → Y) (f : List Y → Y → Option A) (xs : List X) (i : ℕ) (d : X)
+    → i < length xs → first_after f (map v (take i xs)) (map v (drop i xs))
     ≡ option_or (f (map v (take i xs)) (v (get_or xs i d)))
     (first_after f (map v (take (i + 1) xs)) (map v (drop (i + 1) xs)))
 beside_here v f xs i d within = after_here v f [] xs i d within
@@ -106,9 +101,8 @@ beside_passed v f xs i d within so_far passed =
     sym (rw (← passed) at (beside_here v f xs i d within)) ∙ so_far
 
 pub beside_whole : {X Y A : Type 0} (v : X → Y) (f : List Y → Y → Option A) (xs : List X) (i : ℕ)
-    → length xs ≤ i
-    → first_after f (map v (take i xs)) (map v (drop i xs)) ≡ first_beside f (map v xs)
-    → None ≡ first_beside f (map v xs)
+    → length xs ≤ i → first_after f (map v (take i xs)) (map v (drop i xs))
+    ≡ first_beside f (map v xs) → None ≡ first_beside f (map v xs)
 beside_whole v f xs i past so_far =
     sym (at_drop_all (λ ys. first_after f (map v (take i xs)) (map v ys)) xs i past) ∙ so_far
 

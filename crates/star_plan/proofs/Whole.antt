@@ -1,16 +1,9 @@
 -- A well named query has each part of its plan.
-use Rattle.std.proofs.Common.{◌≡◌, true, List, [], ◌++◌, Some, None}
-use Rattle.std.specs.{List.AllByRecursion, List.list_all, Option.option_or}
-use Rattle.star_common.proofs.Firsts.{or_none}
+use Rattle.std.{proofs.Common.{◌≡◌, true, List, [], ◌++◌, Some, None}, specs.List.{AllByRecursion, list_all}, specs.Option.option_or}
+use Rattle.star_common.{proofs.Firsts.or_none, specs.First.first_answer}
 use Rattle.star_schema.specs.{declared.column.ColumnId.ColumnId, declared.group.GroupColumn.GroupColumn, Schema.table_of}
-use Rattle.star_common.specs.First.{first_answer}
 use Rattle.star_query.specs.Tree.{Tree, Measure}
-use Rattle.star_plan.specs.{First.first_beside, Meaning.RowCondition, Names.column_at, Names.table_at, Uses.uses_of, Uses.where_uses, Joins.joins_of, Joins.where_pairs, Naming.aggregate_names, Resolved.items_from, Resolved.option_all, Resolved.where_conjuncts, Sound.are_distinct, Sound.condition_is_sound, Sound.in_scope, Sound.measure_is_sound}
-use Rattle.star_plan.specs.Private.Stages.{groups_uses, items_uses, from_fault, grouping_fault, join_fault, naming_fault, order_fault, resolved_measures, select_fault}
-use Rattle.star_plan.specs.Faults.{aggregates_fault, fact_fault, group_fault, item_fault, key_fault, use_kind_fault, missing_fault, pair_fault, plan_fault, scope_fault, from_table_fault}
-use Rattle.star_plan.specs.WellNamed.{IsThere, is_grouped, is_reached}
-use Rattle.star_plan.proofs.{Apart.apart_to, Apart.each_after, Apart.each_two, KeptJoins.distinct, KeptJoins.pair_known, KeptJoins.same_join}
-use Rattle.star_plan.proofs.Known.{AreGood, Reaches, each_left, each_none, each_right, groups_known, item_grouped, items_known, measures_known, reached_each, reaches, where_known}
+use Rattle.star_plan.{specs.First.first_beside, specs.Meaning.RowCondition, specs.Names.{column_at, table_at}, specs.Uses.{uses_of, where_uses}, specs.Joins.{joins_of, where_pairs}, specs.Naming.aggregate_names, specs.Resolved.{items_from, option_all, where_conjuncts}, specs.Sound.{are_distinct, condition_is_sound, in_scope, measure_is_sound}, specs.Private.Stages.{groups_uses, items_uses, from_fault, grouping_fault, join_fault, naming_fault, order_fault, resolved_measures, select_fault}, specs.Faults.{aggregates_fault, fact_fault, group_fault, item_fault, key_fault, use_kind_fault, missing_fault, pair_fault, plan_fault, scope_fault, from_table_fault}, specs.WellNamed.{IsThere, is_grouped, is_reached}, proofs.Apart.{apart_to, each_after, each_two}, proofs.KeptJoins.{distinct, pair_known, same_join}, proofs.Known.{AreGood, Reaches, each_left, each_none, each_right, groups_known, item_grouped, items_known, measures_known, reached_each, reaches, where_known}}
 
 -- what it says that no name of a table or a column is at fault
 pub record Named (t : Tree) : Type 0 where
@@ -48,7 +41,8 @@ named t none =
     let rest = or_none (join_fault tables ps) (first_answer use_kind_fault (uses_of t)) columns.1 in
     let joined = or_none (first_beside pair_fault ps) (first_answer (missing_fault ps) tables)
     rest.0 in
-    let pairs = each_after pair_fault (λ p. IsThere p.join) (λ before p e. (pair_known before p e).0)
+    let pairs = each_after pair_fault (λ p. IsThere p.join)
+    (λ before p e. (pair_known before p e).0)
     [] ps joined.0 in
     let reached = reached_each ps tables joined.1 in
     record {

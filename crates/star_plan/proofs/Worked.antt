@@ -1,18 +1,14 @@
 -- Parts of queries with their names resolved; joins among comparisons; names of aggregates; and the
 -- columns that a query names.
-use Rattle.std.proofs.Common.{◌≡◌, ℕ, List, [], ◌∷◌, true, false, Option, Some, None, map, pos, refl}
-use Rattle.std.specs.{Prelude.◌+◌, Prelude.codes, Fmt.digits}
+use Rattle.std.{proofs.Common.{◌≡◌, ℕ, List, [], ◌∷◌, true, false, Option, Some, None, map, pos, refl}, specs.Prelude.{◌+◌, codes}, specs.Fmt.digits}
 use Rattle.star_common.proofs.Tables.{Gives, Gives2}
-use Rattle.star_schema.specs.declared.column.ColumnId.TheVariants.{CCustkey, DDatekey, LoCustkey, LoDiscount, LoOrderdate, LoTax}
-use Rattle.star_schema.specs.{declared.column.ColumnId.ColumnId, declared.group.GroupColumn.TheVariants.Key, declared.group.GroupColumn.TheVariants.Aggregate, declared.group.Shape.TheVariants.Plain, Schema.column_of, Tables.Number, Tables.Text, Tables.Value}
-use Rattle.star_query.specs.Tree.{Comparison, Condition, Expression, Item, Name, Test, add, aggregate, and, between, column, compare, comparison, constant, count, fold, mul, not, or, pair, plain, sub, test}
-use Rattle.star_query.specs.{declared.token.Fold.TheVariants.Max, declared.token.Fold.TheVariants.Min, declared.token.Fold.TheVariants.Sum, declared.token.Relation.TheVariants.Equal}
-use Rattle.star_plan.specs.{Joins.Pair, Joins.pairs_of, Joins.where_pairs, Names.column_called, Naming.aggregate_names, Naming.default_name, Naming.function_word, Uses.test_uses, Uses.uses_of, Private.Stages.any_use, Private.Stages.item_column, Resolved.conjuncts_of, Resolved.option_both}
-use Rattle.star_plan.specs.{Resolved.resolved_condition, Resolved.resolved_expression}
+use Rattle.star_schema.specs.{declared.column.ColumnId.TheVariants.{CCustkey, DDatekey, LoCustkey, LoDiscount, LoOrderdate, LoTax}, declared.column.ColumnId.ColumnId, declared.group.GroupColumn.TheVariants.{Key, Aggregate}, declared.group.Shape.TheVariants.Plain, Schema.column_of, Tables.{Number, Text, Value}}
+use Rattle.star_query.specs.{Tree.{Comparison, Condition, Expression, Item, Name, Test, add, aggregate, and, between, column, compare, comparison, constant, count, fold, mul, not, or, pair, plain, sub, test}, declared.token.Fold.TheVariants.{Max, Min, Sum}, declared.token.Relation.TheVariants.Equal}
+use Rattle.star_plan.specs.{Joins.{Pair, pairs_of, where_pairs}, Names.column_called, Naming.{aggregate_names, default_name, function_word}, Uses.{test_uses, uses_of}, Private.Stages.{any_use, item_column}, Resolved.{conjuncts_of, option_both, resolved_condition, resolved_expression}}
 
 -- a name, and where it stands
 abbrev called : List ℕ → ℕ → Name
-called word at = record { text = word; place = at }
+called word at = record { text = word; offset = at }
 
 -- ---- expressions and conditions
 
@@ -52,11 +48,9 @@ abbrev of_discount : Condition (Comparison ColumnId Value)
 of_discount = test (between LoDiscount (Number (pos 1)) (Number (pos 3)))
 
 -- two compared columns are no conjunct, and none of a condition within OR
-conditions : Gives resolved_condition (
-    (or taxed discounted, Some (or of_tax of_discount))
+conditions : Gives resolved_condition ((or taxed discounted, Some (or of_tax of_discount))
     ∷ (and taxed discounted, Some (and of_tax of_discount)) ∷ (not taxed, Some (not of_tax)) ∷ [])
-    × Gives conjuncts_of (
-    (and taxed (and by_date discounted), Some (of_tax ∷ of_discount ∷ []))
+    × Gives conjuncts_of ((and taxed (and by_date discounted), Some (of_tax ∷ of_discount ∷ []))
     ∷ (by_date, Some []) ∷ (or taxed by_date, None) ∷ [])
 unfolding column_of column_called
 conditions = (refl, refl)
@@ -72,19 +66,21 @@ of_a_customer = record { join = Some (record { foreign = LoCustkey; key = CCustk
 abbrev none : ℕ → Pair
 none at = record { join = None; at = at }
 
-joined : Gives where_pairs (
-    (Some (and (and by_date taxed) by_customer), dated ∷ of_a_customer ∷ [])
-    ∷ (Some (or by_date (and taxed by_customer)), none 3 ∷ none 32 ∷ [])
+joined : Gives where_pairs ((
+  Some (and (and by_date taxed) by_customer),
+  dated ∷ of_a_customer
+      ∷ [],
+) ∷ (Some (or by_date (and taxed by_customer)), none 3 ∷ none 32 ∷ [])
     ∷ (Some (and by_date (not by_customer)), dated ∷ none 32 ∷ []) ∷ (None, []) ∷ [])
     × (pairs_of false by_date ≡ none 3 ∷ [])
 unfolding column_of column_called
 joined = (refl, refl)
 
--- ---- items: a group column by its place, and an aggregate by how many come before it; names are
+-- ---- items: a group column by its position, and an aggregate by how many come before it; names are
 -- numbered from 1, one with a name of its own among them
 
 abbrev counted : ℕ → Option Name → Item
-counted at name = aggregate (record { measure = count; place = at; name = name })
+counted at name = aggregate (record { measure = count; offset = at; name = name })
 
 abbrev groups : List Name
 groups = called (codes "lo_quantity") 40 ∷ called (codes "lo_tax") 53 ∷ []
@@ -127,11 +123,11 @@ uses = (refl, refl)
 
 -- select lo_tax, count(*) from lineorder where lo_tax = 2 and lo_orderdate = d_datekey group by
 -- lo_tax
-places : map (λ u. u.at) (uses_of (record {
+indexes : map (λ u. u.at) (uses_of (record {
   items = plain (called (codes "lo_tax") 7) ∷ counted 15 None ∷ [];
   tables = called (codes "lineorder") 29 ∷ [];
   condition = Some (and taxed by_date);
   grouping = record { shape = Plain; columns = called (codes "lo_tax") 95 ∷ [] };
   keys = [];
 })) ≡ 7 ∷ 60 ∷ 3 ∷ 18 ∷ 95 ∷ []
-places = refl
+indexes = refl

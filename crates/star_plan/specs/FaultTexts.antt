@@ -1,9 +1,8 @@
 -- The words of the faults of a query's names.
 use Rattle.std.specs.Prelude.{◌++◌, ℕ, List, codes, decimal}
-use Rattle.star_plan.specs.declared.fault.PlanFault.{PlanFault}
-use Rattle.star_plan.specs.declared.fault.PlanFault.TheVariants.{OutOfMemory, UnknownName, NoFactTable, TableTwice, TableNotNamed, JoinMissing, JoinTwice, NotAKeyPair, WrongKind, NotGrouped, DuplicateGroup, UnknownOrderKey, DuplicateAlias, NoAggregate}
+use Rattle.star_plan.specs.declared.fault.PlanFault.{PlanFault, TheVariants.{OutOfMemory, UnknownName, NoFactTable, TableTwice, TableNotNamed, JoinMissing, JoinTwice, NotAKeyPair, WrongKind, NotGrouped, DuplicateGroup, UnknownOrderKey, DuplicateAlias, NoAggregate}}
 
--- the number and name of a fault, and the place of the name
+-- the number and name of a fault, and the position of the name
 unfoldable pub plan_fault_text : PlanFault → List ℕ
 plan_fault_text OutOfMemory = codes "1 OutOfMemory"
 plan_fault_text (UnknownName at) = codes "30 UnknownName at " ++ decimal at

@@ -1,18 +1,15 @@
 -- The faults of a query's names, and their order (this project's profile of SQL).
-use Rattle.std.specs.Prelude.{ℕ, ◌+◌, false, ◌||◌, List, [], ◌∷◌, length, Option, Some, None, if◌then◌else◌}
-use Rattle.std.specs.{Option.is_none, Option.option_map_or, Option.option_or}
+use Rattle.std.specs.{Prelude.{ℕ, ◌+◌, false, ◌||◌, List, [], ◌∷◌, length, Option, Some, None, if◌then◌else◌}, Option.{is_none, option_map_or, option_or}}
 use Rattle.star_schema.specs.{declared.table.TableId.TheVariants.Lineorder, Schema.table_name, Schema.table_of}
 use Rattle.star_common.specs.First.{first_answer}
 use Rattle.star_query.specs.Tree.{Item, Name, SortKey, Tree, aggregate, plain}
-use Rattle.star_plan.specs.declared.fault.PlanFault.TheVariants.{UnknownName, NoFactTable, TableTwice, TableNotNamed, JoinMissing, JoinTwice, NotAKeyPair, WrongKind, NotGrouped, DuplicateGroup, UnknownOrderKey, DuplicateAlias, NoAggregate}
-use Rattle.star_plan.specs.{declared.fault.PlanFault.PlanFault, First.first_beside, Names.has_name, Names.table_at, Uses.Use, Uses.uses_of, Joins.Pair, Joins.is_joined, Joins.where_pairs, Naming.name_of_aggregate, Naming.aggregate_names, Naming.has_text, Naming.name_place}
-use Rattle.star_plan.specs.{WellNamed.is_in_from, WellNamed.is_reached}
+use Rattle.star_plan.specs.{declared.fault.PlanFault.TheVariants.{UnknownName, NoFactTable, TableTwice, TableNotNamed, JoinMissing, JoinTwice, NotAKeyPair, WrongKind, NotGrouped, DuplicateGroup, UnknownOrderKey, DuplicateAlias, NoAggregate}, declared.fault.PlanFault.PlanFault, First.first_beside, Names.{has_name, table_at}, Uses.{Use, uses_of}, Joins.{Pair, is_joined, where_pairs}, Naming.{name_of_aggregate, aggregate_names, has_text, name_offset}, WellNamed.{is_in_from, is_reached}}
 
 -- ---- the names of FROM
 
 -- a name is no table's, or occurs there before
 abbrev pub from_table_fault : List Name → Name → Option PlanFault
-from_table_fault before n = if is_none (table_at n) then Some (UnknownName n.place) else if has_name before n.text then Some (TableTwice n.place) else None
+from_table_fault before n = if is_none (table_at n) then Some (UnknownName n.offset) else if has_name before n.text then Some (TableTwice n.offset) else None
 
 abbrev pub fact_fault : List Name → Option PlanFault
 fact_fault tables = if has_name tables (table_name Lineorder) then None else Some NoFactTable
@@ -23,7 +20,8 @@ fact_fault tables = if has_name tables (table_name Lineorder) then None else Som
 abbrev pub scope_fault : List Name → Use → Option PlanFault
 scope_fault tables u = if is_none u.column then Some (UnknownName u.at) else if is_in_from tables u.column then None else Some (TableNotNamed u.at)
 
--- a column isn't of the kind that is asked of it: a number inside an aggregate, the literal's kind in a comparison
+-- a column isn't of the kind that is asked of it: a number inside an aggregate, the literal's kind
+-- in a comparison
 abbrev pub use_kind_fault : Use → Option PlanFault
 use_kind_fault u = if u.fits then None else Some (WrongKind u.at)
 
@@ -36,19 +34,20 @@ pair_fault before p =
 
 -- a dimension of FROM has no join
 abbrev pub missing_fault : List Pair → Name → Option PlanFault
-missing_fault pairs n = if is_reached pairs (table_at n) then None else Some (JoinMissing n.place)
+missing_fault pairs n = if is_reached pairs (table_at n) then None else Some (JoinMissing n.offset)
 
 -- ---- groups, items and the order
 
 abbrev pub group_fault : List Name → Name → Option PlanFault
-group_fault before n = if has_name before n.text then Some (DuplicateGroup n.place) else None
+group_fault before n = if has_name before n.text then Some (DuplicateGroup n.offset) else None
 
--- after aggregates of these names a plain column isn't in GROUP BY, or an aggregate's name is one of them or a group column's
+-- after aggregates of these names a plain column isn't in GROUP BY, or an aggregate's name is one
+-- of them or a group column's
 abbrev pub item_fault_after : List Name → List (List ℕ) → Item → Option PlanFault
-item_fault_after groups names (plain n) = if has_name groups n.text then None else Some (NotGrouped n.place)
+item_fault_after groups names (plain n) = if has_name groups n.text then None else Some (NotGrouped n.offset)
 item_fault_after groups names (aggregate a) =
     if has_text names (name_of_aggregate (length names + 1) a) || has_name groups (name_of_aggregate (length names + 1) a)
-    then Some (DuplicateAlias (name_place a)) else None
+    then Some (DuplicateAlias (name_offset a)) else None
 
 -- an item after others
 abbrev pub item_fault : List Name → List Item → Item → Option PlanFault
@@ -61,7 +60,7 @@ aggregates_fault (name ∷ names) = None
 -- a sort key is neither a group column nor an aggregate's name
 abbrev pub key_fault : List Name → List (List ℕ) → SortKey → Option PlanFault
 key_fault groups names k =
-    if has_name groups k.name.text || has_text names k.name.text then None else Some (UnknownOrderKey k.name.place)
+    if has_name groups k.name.text || has_text names k.name.text then None else Some (UnknownOrderKey k.name.offset)
 
 -- ---- the first fault of a query
 

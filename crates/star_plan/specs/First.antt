@@ -1,6 +1,5 @@
 -- The first fault that there is.
-use Rattle.std.specs.Prelude.{List, [], ◌∷◌, ◌++◌, Option, None}
-use Rattle.std.specs.Option.{option_or}
+use Rattle.std.specs.{Prelude.{List, [], ◌∷◌, ◌++◌, Option, None}, Option.option_or}
 
 -- the first answer of an element, each asked together with those before it
 abbrev pub first_after : {X A : Type 0} → (List X → X → Option A) → List X → List X → Option A

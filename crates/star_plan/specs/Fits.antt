@@ -1,13 +1,13 @@
--- Which queries fit (this project's profile): by the bounds of the columns and the number of the fact's rows only.
-use Rattle.std.specs.Prelude.{ℕ, ◌≤◌, Bool, true, ◌&&◌, IsTrue}
-use Rattle.std.specs.List.{list_all}
+-- Which queries fit (this project's profile): by the bounds of the columns and the number of the
+-- fact's rows only.
+use Rattle.std.specs.{Prelude.{ℕ, ◌≤◌, Bool, true, ◌&&◌, IsTrue}, List.list_all}
 use Rattle.star_schema.specs.declared.column.ColumnId.{ColumnId}
 use Rattle.star_interval.specs.Range.{Range, only, corner_range, fits_i64}
-use Rattle.star_query.specs.Leaves.{fold_expression}
-use Rattle.star_query.specs.Tree.{Expression, column, constant, add, sub, mul, Measure, fold, count}
+use Rattle.star_query.specs.{Leaves.fold_expression, Tree.{Expression, column, constant, add, sub, mul, Measure, fold, count}}
 use Rattle.star_plan.specs.Meaning.{Plan}
 
--- the range of an expression whose columns have these: the least and greatest result over the corners of its parts' ranges
+-- the range of an expression whose columns have these: the least and greatest result over the
+-- corners of its parts' ranges
 abbrev pub expression_range : {C : Type 0} → (C → Range) → Expression C → Range
 expression_range bounds e = fold_expression bounds only corner_range e
 

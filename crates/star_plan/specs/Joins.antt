@@ -1,8 +1,6 @@
 -- The joins of a query: comparisons of a foreign key with the key that it references.
-use Rattle.std.specs.Prelude.{ℕ, Bool, true, false, ◌&&◌, ◌==◌, List, [], ◌∷◌, ◌++◌, Option, Some, None, if◌then◌else◌}
-use Rattle.std.specs.{List.flat_map, List.list_any, Option.option_or, Option.option_to_list}
-use Rattle.star_schema.specs.Schema.{index_of, is_table, key_of, references, table_of}
-use Rattle.star_schema.specs.{declared.table.TableId.TableId, declared.table.Key.Key, declared.table.Key.TheVariants.One, declared.table.Key.TheVariants.Two, declared.column.ColumnId.ColumnId}
+use Rattle.std.specs.{Prelude.{ℕ, Bool, true, false, ◌&&◌, ◌==◌, List, [], ◌∷◌, ◌++◌, Option, Some, None, if◌then◌else◌}, List.{flat_map, list_any}, Option.{option_or, option_to_list}}
+use Rattle.star_schema.specs.{Schema.{index_of, is_table, key_of, references, table_of}, declared.table.TableId.TableId, declared.table.Key.Key, declared.table.Key.TheVariants.{One, Two}, declared.column.ColumnId.ColumnId}
 use Rattle.star_query.specs.Tree.{Condition, Test, pair, comparison, and, or, not, test}
 use Rattle.star_plan.specs.{declared.tree.Join.Join, Names.column_at}
 
@@ -26,7 +24,8 @@ abbrev pub join_of : Option ColumnId → Option ColumnId → Option Join
 join_of (Some a) (Some b) = option_or (join_by a b) (join_by b a)
 join_of _ _ = None
 
--- two columns that are compared: the join that they make there, if they make one, and the place of the first of them
+-- two columns that are compared: the join that they make there, if they make one, and the position
+-- of the first of them
 pub record Pair : Type 0 where
   pub join : Option Join
   pub at : ℕ
@@ -36,7 +35,7 @@ abbrev pub pairs_of : (is_conjunct : Bool) → Condition Test → List Pair
 pairs_of b (and c d) = pairs_of b c ++ pairs_of b d
 pairs_of b (or c d) = pairs_of false c ++ pairs_of false d
 pairs_of b (not c) = pairs_of false c
-pairs_of b (test (pair m n)) = record { join = (if b then join_of (column_at m) (column_at n) else None); at = m.place } ∷ []
+pairs_of b (test (pair m n)) = record { join = (if b then join_of (column_at m) (column_at n) else None); at = m.offset } ∷ []
 pairs_of b (test (comparison c)) = []
 
 abbrev pub where_pairs : Option (Condition Test) → List Pair

@@ -1,7 +1,6 @@
 -- How much a plan holds at most: the size of a compiled program follows from it.
 use Rattle.std.specs.{Prelude.◌≤◌, Prelude.length, List.sum_by}
-use Rattle.star_query.specs.Maxima.{most_aggregates, most_columns, most_comparisons, most_items, most_keys, most_operands}
-use Rattle.star_query.specs.{Limits.comparisons_of, Limits.measure_operands}
+use Rattle.star_query.specs.{Maxima.{most_aggregates, most_columns, most_comparisons, most_items, most_keys, most_operands}, Limits.{comparisons_of, measure_operands}}
 use Rattle.star_plan.specs.Meaning.{Plan}
 
 -- at most one join for each dimension; the rest as the grammar of queries limits it

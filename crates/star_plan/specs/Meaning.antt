@@ -1,11 +1,8 @@
--- What a resolved query means over the rows of the tables (Star Schema Benchmark, revision 3, section 3; Gray et al. 1997).
-use Rattle.std.specs.Prelude.{ℕ, ℤ, pos, Bool, ◌&&◌, List, [], ◌∷◌, filter, map, slice_index_or, if◌then◌else◌}
-use Rattle.std.specs.Ordering.{is_eq, is_ne, is_lt, is_le, is_gt, is_ge}
-use Rattle.std.specs.{List.flat_map, List.list_all, declared.cmp.Ordering.Ordering}
-use Rattle.star_schema.specs.{declared.table.TableId.TableId, declared.table.TableId.TheVariants.Lineorder, declared.column.ColumnId.ColumnId, declared.group.Shape.Shape, declared.group.Aggregate.Aggregate, declared.group.GroupColumn.GroupColumn, declared.group.SortKey.SortKey}
-use Rattle.star_schema.specs.{Groups.Entry, Order.value_cmp, Schema.is_table, Schema.place_of, Schema.table_of, Tables.Value, Tables.Number, Tables.Text}
-use Rattle.star_query.specs.Tree.{Expression, Comparison, compare, between, Condition, Measure, fold, count}
-use Rattle.star_query.specs.{declared.token.Relation.Relation, declared.token.Fold.TheVariants.Sum, declared.token.Fold.TheVariants.Min, declared.token.Fold.TheVariants.Max, Leaves.fold_expression, Leaves.is_so}
+-- What a resolved query means over the rows of the tables (Star Schema Benchmark, revision 3,
+-- section 3; Gray et al. 1997).
+use Rattle.std.specs.{Prelude.{ℕ, ℤ, pos, Bool, ◌&&◌, List, [], ◌∷◌, filter, map, slice_index_or, if◌then◌else◌}, Ordering.{is_eq, is_ne, is_lt, is_le, is_gt, is_ge}, List.{flat_map, list_all}, declared.cmp.Ordering.Ordering}
+use Rattle.star_schema.specs.{declared.table.TableId.TableId, declared.table.TableId.TheVariants.Lineorder, declared.column.ColumnId.ColumnId, declared.group.Shape.Shape, declared.group.Aggregate.Aggregate, declared.group.GroupColumn.GroupColumn, declared.group.SortKey.SortKey, Groups.Entry, Order.value_cmp, Schema.{is_table, position_of, table_of}, Tables.{Value, Number, Text}}
+use Rattle.star_query.specs.{Tree.{Expression, Comparison, compare, between, Condition, Measure, fold, count}, declared.token.Relation.Relation, declared.token.Fold.TheVariants.{Sum, Min, Max}, Leaves.{fold_expression, is_so}}
 use Rattle.star_plan.specs.declared.tree.Join.{Join}
 use Rattle.star_schema.specs.declared.group.Aggregate.TheVariants as aggregate
 use Rattle.star_query.specs.declared.token.Relation.TheVariants as sign
@@ -16,7 +13,8 @@ use Rattle.star_query.specs.declared.token.Relation.TheVariants as sign
 abbrev pub RowCondition : Type 0
 RowCondition = Condition (Comparison ColumnId Value)
 
--- its joins, the other conjuncts of its condition, its groups, its aggregates with their names, its items and its order
+-- its joins, the other conjuncts of its condition, its groups, its aggregates with their names, its
+-- items and its order
 pub record Plan : Type 0 where
   pub joins : List Join
   pub conjuncts : List RowCondition
@@ -41,7 +39,7 @@ Joined = TableId → Row
 
 -- the value of a column of a row of its table
 abbrev pub value_in : ColumnId → Row → Value
-value_in c row = slice_index_or row (place_of c) (Number (pos 0))
+value_in c row = slice_index_or row (position_of c) (Number (pos 0))
 
 abbrev pub joined_value : ColumnId → Joined → Value
 joined_value c row = value_in c (row (table_of c))
@@ -57,7 +55,8 @@ only_row t l = with_row (λ s. []) t l
 abbrev pub matches : Joined → Join → Row → Bool
 matches row j d = is_eq (value_cmp (joined_value j.foreign row) (value_in j.key d))
 
--- the row with each choice of a row of every dimension to be joined, if the keys of these are the foreign keys: a comprehension over the product of the dimensions
+-- the row with each choice of a row of every dimension to be joined, if the keys of these are the
+-- foreign keys: a comprehension over the product of the dimensions
 abbrev pub partners : Tables → List Join → Joined → List Joined
 partners ts [] row = row ∷ []
 partners ts (j ∷ js) row = flat_map (λ d. partners ts js (with_row row (table_of j.key) d)) (filter (matches row j) (ts (table_of j.key)))

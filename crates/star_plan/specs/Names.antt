@@ -1,6 +1,5 @@
 -- The tables and columns that a query names.
-use Rattle.std.specs.Prelude.{ℕ, Bool, true, false, List, Option, Some, None, nat_eq}
-use Rattle.std.specs.{List.list_any, Cmp.Lexicographic.pointwise}
+use Rattle.std.specs.{Prelude.{ℕ, Bool, true, false, List, Option, Some, None, nat_eq}, List.list_any, Cmp.Lexicographic.pointwise}
 use Rattle.star_schema.specs.{declared.table.TableId.TableId, declared.table.TheConstants.TABLES, declared.column.ColumnId.ColumnId, declared.column.TheConstants.COLUMNS, declared.column.Kind.Kind, Schema.column_name, Schema.kind_of, Schema.table_name, Words.named}
 use Rattle.star_query.specs.Tree.{Name}
 use Rattle.star_schema.specs.declared.column.Kind.TheVariants as kind

@@ -1,11 +1,9 @@
 -- The names of a query's aggregates, and the meaning of names that an answer shows or is sorted by.
-use Rattle.std.specs.Prelude.{ℕ, ◌+◌, Bool, List, [], ◌∷◌, ◌++◌, Option, Some, None, codes, decimal, nat_eq, option_map}
-use Rattle.std.specs.{List.list_any, List.position, Option.option_or, Cmp.Lexicographic.pointwise}
+use Rattle.std.specs.{Prelude.{ℕ, ◌+◌, Bool, List, [], ◌∷◌, ◌++◌, Option, Some, None, codes, decimal, nat_eq, option_map}, List.{list_any, position}, Option.option_or, Cmp.Lexicographic.pointwise}
 use Rattle.star_schema.specs.declared.group.{GroupColumn.GroupColumn, SortKey.SortKey}
 use Rattle.star_schema.specs.declared.group.GroupColumn.TheVariants as group
-use Rattle.star_query.specs.declared.token.Fold.TheVariants.{Sum, Min, Max}
+use Rattle.star_query.specs.{declared.token.Fold.TheVariants.{Sum, Min, Max}, Tree.{Aggregate, Item, Measure, Name, aggregate, count, fold, plain}}
 use Rattle.star_query.specs.Tree as tree
-use Rattle.star_query.specs.Tree.{Aggregate, Item, Measure, Name, aggregate, count, fold, plain}
 
 unfoldable pub function_word : Measure Name → List ℕ
 function_word count = codes "count"
@@ -37,23 +35,23 @@ aggregate_names items = names_from 1 items
 unfoldable pub has_text : List (List ℕ) → List ℕ → Bool
 has_text texts text = list_any (λ t. pointwise nat_eq t text) texts
 
-abbrev place_from : ℕ → Option Name → ℕ
-place_from function None = function
-place_from function (Some n) = n.place
+abbrev offset_from : ℕ → Option Name → ℕ
+offset_from function None = function
+offset_from function (Some n) = n.offset
 
--- the place of an aggregate's name, or of the function's word if it has none
-abbrev pub name_place : Aggregate → ℕ
-name_place a = place_from a.place a.name
+-- the position of an aggregate's name, or of the function's word if it has none
+abbrev pub name_offset : Aggregate → ℕ
+name_offset a = offset_from a.offset a.name
 
 -- ---- the meaning of a name in SELECT or ORDER BY
 
 -- the group column that reads so
 abbrev pub key_column : List Name → List ℕ → Option GroupColumn
-key_column groups text = option_map (λ place. group.Key place) (position (λ n. pointwise nat_eq n.text text) groups)
+key_column groups text = option_map (λ index. group.Key index) (position (λ n. pointwise nat_eq n.text text) groups)
 
 -- the aggregate that is named so
 abbrev pub aggregate_column : List (List ℕ) → List ℕ → Option GroupColumn
-aggregate_column names text = option_map (λ place. group.Aggregate place) (position (λ name. pointwise nat_eq name text) names)
+aggregate_column names text = option_map (λ index. group.Aggregate index) (position (λ name. pointwise nat_eq name text) names)
 
 -- a sort key is a group column or else an aggregate
 abbrev pub resolved_key : List Name → List (List ℕ) → tree.SortKey → Option SortKey

@@ -15,7 +15,8 @@ abbrev pub measure_is_spelled : Measure ColumnId → Bool
 measure_is_spelled count = true
 measure_is_spelled (fold f e) = expression_is_spelled e
 
--- names of 1 to 64 letters, digits and _, numbers of at most 18 digits, and texts from the space to the tilde
+-- names of 1 to 64 letters, digits and _, numbers of at most 18 digits, and texts from the space to
+-- the tilde
 pub record IsSpelledPlan (p : Plan) : Type 0 where
   pub names : list_all is_name p.names ≡ true
   pub conjuncts : list_all condition_is_spelled p.conjuncts ≡ true

@@ -1,14 +1,12 @@
 -- The columns that a query names, from the left.
-use Rattle.std.specs.Prelude.{ℕ, Bool, true, ◌&&◌, List, [], ◌∷◌, ◌++◌, Option, Some, None, map}
-use Rattle.std.specs.{List.flat_map}
+use Rattle.std.specs.{Prelude.{ℕ, Bool, true, ◌&&◌, List, [], ◌∷◌, ◌++◌, Option, Some, None, map}, List.flat_map}
 use Rattle.star_schema.specs.{declared.column.ColumnId.ColumnId, Tables.kind_of_value}
-use Rattle.star_query.specs.Tree.{Condition, Expression, Item, Measure, Name, Test, Tree, aggregate, between, compare, comparison, count, fold, pair, plain}
-use Rattle.star_query.specs.{Leaves.of_operands, Leaves.of_tests}
+use Rattle.star_query.specs.{Tree.{Condition, Expression, Item, Measure, Name, Test, Tree, aggregate, between, compare, comparison, count, fold, pair, plain}, Leaves.{of_operands, of_tests}}
 use Rattle.star_plan.specs.Names.{column_at, is_of}
 use Rattle.star_schema.specs.declared.column.Kind.TheVariants as kind
 
--- a use of a column: the column, if there is one of this name, and whether it is of the kind that is
--- asked of it there
+-- a use of a column: the column, if there is one of this name, and whether it is of the kind that
+-- is asked of it there
 pub record Use : Type 0 where
   pub column : Option ColumnId
   pub fits : Bool
@@ -16,7 +14,7 @@ pub record Use : Type 0 where
 
 -- whether the column, if there is one, fits
 abbrev pub use_when : (Option ColumnId → Bool) → Name → Use
-use_when fits n = record { column = column_at n; fits = fits (column_at n); at = n.place }
+use_when fits n = record { column = column_at n; fits = fits (column_at n); at = n.offset }
 
 -- inside an aggregate are only numbers
 abbrev pub expression_uses : Expression Name → List Use

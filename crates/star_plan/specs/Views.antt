@@ -1,8 +1,7 @@
 -- The trees of plans as the resolved queries that they hold.
 use Rattle.std.specs.Prelude.{ℕ, List, map}
 use Rattle.star_schema.specs.{declared.column.ColumnId.ColumnId, Tables.Value}
-use Rattle.star_query.specs.Views.{comparison_by, condition_by, expression_by, literal_view, measure_by}
-use Rattle.star_query.specs.{Tree.Comparison, Tree.Expression, Tree.Measure}
+use Rattle.star_query.specs.{Views.{comparison_by, condition_by, expression_by, literal_view, measure_by}, Tree.{Comparison, Expression, Measure}}
 use Rattle.star_plan.specs.{declared.tree.Aggregate.Aggregate, declared.tree.PlanTree.PlanTree, Meaning.RowCondition, Meaning.Plan}
 pub use Rattle.star_query.specs.Views.{literal_view as literal_value_view}
 use Rattle.star_query.specs.declared.tree.Comparison as of_comparison

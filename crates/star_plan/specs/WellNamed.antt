@@ -1,6 +1,5 @@
 -- Which queries are well named, condition by condition (this project's profile of SQL).
-use Rattle.std.specs.Prelude.{◌≡◌, ℕ, ◌≤◌, Bool, true, false, ◌||◌, List, length, Option, Some, None, nat_eq}
-use Rattle.std.specs.{List.AllByRecursion, List.IsDistinct, Cmp.Lexicographic.pointwise}
+use Rattle.std.specs.{Prelude.{◌≡◌, ℕ, ◌≤◌, Bool, true, false, ◌||◌, List, length, Option, Some, None, nat_eq}, List.{AllByRecursion, IsDistinct}, Cmp.Lexicographic.pointwise}
 use Rattle.star_schema.specs.{declared.table.TableId.TableId, declared.table.TableId.TheVariants.Lineorder, declared.column.ColumnId.ColumnId, Schema.is_table, Schema.table_name, Schema.table_of}
 use Rattle.star_query.specs.Tree.{Item, Name, Tree, aggregate, plain}
 use Rattle.star_plan.specs.{Names.has_name, Names.table_at, Uses.uses_of, Joins.Pair, Joins.is_joined, Joins.joins_of, Joins.where_pairs, Naming.aggregate_names, Naming.has_text, Sound.are_distinct}
@@ -35,11 +34,13 @@ pub record IsWellNamed (t : Tree) : Type 0 where
   pub tables : AllByRecursion (λ n. IsThere (table_at n)) t.tables
   pub tables_once : IsDistinct same_name t.tables
   pub fact : has_name t.tables (table_name Lineorder) ≡ true
-  -- SELECT, WHERE and GROUP BY name columns, of tables in FROM, each of the kind that its use asks for
+  -- SELECT, WHERE and GROUP BY name columns, of tables in FROM, each of the kind that its use asks
+  -- for
   pub columns : AllByRecursion (λ u. IsThere u.column) (uses_of t)
   pub scope : AllByRecursion (λ u. is_in_from t.tables u.column ≡ true) (uses_of t)
   pub kinds : AllByRecursion (λ u. u.fits ≡ true) (uses_of t)
-  -- if two columns are compared, they join lineorder with a dimension: no dimension twice, and each that FROM names
+  -- if two columns are compared, they join lineorder with a dimension: no dimension twice, and each
+  -- that FROM names
   pub joins : AllByRecursion (λ p. IsThere p.join) (where_pairs t.condition)
   pub joined_once : are_distinct (joins_of (where_pairs t.condition)) ≡ true
   pub joined : AllByRecursion (λ n. is_reached (where_pairs t.condition) (table_at n) ≡ true) t.tables

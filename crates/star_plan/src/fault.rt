@@ -6,7 +6,7 @@ ghost use Rattle.star_plan.specs.declared.fault.PlanFault.TheVariants.{OutOfMemo
 use std::alloc::{AllocError, AllocFailed};
 use std::fmt;
 
-/// Why a query has no plan. `at` is the place of a name in the query's text, in bytes from 0.
+/// Why a query has no plan. `at` is the position of a name in the query's text, in bytes from 0.
 #[derive(Clone, Copy, Debug, PartialEq, Eq)]
 pub enum PlanFault {
     /// Memory was refused.

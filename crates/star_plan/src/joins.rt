@@ -1,7 +1,6 @@
 // The comparisons of two columns in a query's condition.
 
-ghost use Rattle.std.specs.Prelude.{◌≡◌, ◌++◌, OnOk, IfOk, map, option_map};
-ghost use Rattle.std.specs.{List.list_any, Result.result_err};
+ghost use Rattle.std.specs.{Prelude.{◌≡◌, ◌++◌, OnOk, IfOk, map, option_map}, List.list_any, Result.result_err};
 ghost use Rattle.star_common.specs.First.{first_answer};
 ghost use Rattle.star_query.specs.Views.{condition_view, name_view};
 ghost use Rattle.star_plan.specs.{First.first_beside, Faults.missing_fault, Faults.pair_fault, Private.Stages.join_fault, Private.Found.pair_view, Private.Found.pairs_view};
@@ -21,7 +20,7 @@ pub(crate) struct Pair {
     /// The join that they make, if they make one and the comparison is a conjunct of the whole
     /// condition.
     join: Option<Join>,
-    /// The place of the first of them.
+    /// The position of the first of them.
     at: usize,
 }
 
@@ -100,7 +99,7 @@ fn add_pairs(
             } else {
                 None
             };
-            let at = first.place;
+            let at = first.offset;
             pairs.push(Pair { join, at })?;
         }
         Condition::Test(Test::Comparison(_)) => {}
@@ -178,8 +177,8 @@ impl Pair {
 fn check_pairs(pairs: &[Pair]) -> Result<(), PlanFault>
     ensures { result_err result ≡ first_beside pair_fault (pairs_view pairs.now) }
 {
-    for place in 0..pairs.len() {
-        pairs[place].check(&pairs[..place])?;
+    for index in 0..pairs.len() {
+        pairs[index].check(&pairs[..index])?;
     }
     Ok(())
 }
@@ -190,7 +189,7 @@ fn check_dimension(pairs: &[Pair], name: &Name) -> Result<(), PlanFault>
 {
     match table_at(name) {
         Some(table) if table != TableId::Lineorder && !is_joined(pairs, table) => {
-            Err(PlanFault::JoinMissing { at: name.place })
+            Err(PlanFault::JoinMissing { at: name.offset })
         }
         _ => Ok(()),
     }

@@ -1,7 +1,6 @@
 // The group columns and the aggregates that SELECT and ORDER BY name.
 
-ghost use Rattle.std.specs.Prelude.{◌≡◌, ◌<◌, ◌≤◌, IfSome, length, map, nat_eq};
-ghost use Rattle.std.specs.{Cmp.Lexicographic.pointwise, List.position, Option.option_or, Result.result_err};
+ghost use Rattle.std.specs.{Prelude.{◌≡◌, ◌<◌, ◌≤◌, IfSome, length, map, nat_eq}, Cmp.Lexicographic.pointwise, List.position, Option.option_or, Result.result_err};
 ghost use Rattle.star_common.specs.First.{first_answer};
 ghost use Rattle.star_query.specs.{Maxima.most_columns, Maxima.most_items, Views.name_view, Views.sort_key_view};
 ghost use Rattle.star_plan.specs.{Faults.key_fault, Resolved.option_all, Views.names_view, Private.Answers.Resolves, Private.Answers.Tells};
@@ -14,16 +13,16 @@ use star_query::Name;
 use star_schema::{GroupColumn, SortKey};
 use std::alloc::Global;
 
-fn key_place(groups: &[Name], text: &[u8]) -> Option<usize>
-    ensures place { result ≡ position (λ n. pointwise nat_eq n.text.items text.now) groups.now }
-    ensures within { IfSome result (λ place. place < length groups.now) }
+fn key_index(groups: &[Name], text: &[u8]) -> Option<usize>
+    ensures index { result ≡ position (λ n. pointwise nat_eq n.text.items text.now) groups.now }
+    ensures within { IfSome result (λ index. index < length groups.now) }
 {
     groups.iter().position(|name| name.text.as_slice() == text)
 }
 
-fn aggregate_place(aggregates: &[Aggregate], text: &[u8]) -> Option<usize>
-    ensures place { result ≡ position (λ a. pointwise nat_eq a.name.items text.now) aggregates.now }
-    ensures within { IfSome result (λ place. place < length aggregates.now) }
+fn aggregate_index(aggregates: &[Aggregate], text: &[u8]) -> Option<usize>
+    ensures index { result ≡ position (λ a. pointwise nat_eq a.name.items text.now) aggregates.now }
+    ensures within { IfSome result (λ index. index < length aggregates.now) }
 {
     aggregates
         .iter()
@@ -35,9 +34,9 @@ pub(crate) fn key_column(groups: &[Name], text: &[u8]) -> Option<GroupColumn>
     requires { length groups.now ≤ most_columns }
     ensures { result ≡ naming.key_column (map name_view groups.now) text.now }
 {
-    match key_place(groups, text) {
+    match key_index(groups, text) {
         None => None,
-        Some(place) => Some(GroupColumn::Key(place as u16)),
+        Some(index) => Some(GroupColumn::Key(index as u16)),
     }
 }
 
@@ -46,9 +45,9 @@ fn aggregate_column(aggregates: &[Aggregate], text: &[u8]) -> Option<GroupColumn
     requires { length aggregates.now ≤ most_items }
     ensures { result ≡ naming.aggregate_column (names_view aggregates.now) text.now }
 {
-    match aggregate_place(aggregates, text) {
+    match aggregate_index(aggregates, text) {
         None => None,
-        Some(place) => Some(GroupColumn::Aggregate(place as u16)),
+        Some(index) => Some(GroupColumn::Aggregate(index as u16)),
     }
 }
 
@@ -79,7 +78,7 @@ fn sort_key(
 {
     let name = &key.name;
     match group_column(groups, aggregates, &name.text) {
-        None => Err(PlanFault::UnknownOrderKey { at: name.place }),
+        None => Err(PlanFault::UnknownOrderKey { at: name.offset }),
         Some(column) => Ok(SortKey {
             column,
             direction: key.direction,

@@ -3,8 +3,7 @@
 ghost use Rattle.std.specs.Prelude.{◌≡◌, ◌≤◌, Some, IfErr, IfOk, length, map};
 ghost use Rattle.star_common.specs.Memory.{UnlessMemory};
 ghost use Rattle.star_query.specs.{Maxima.most_columns, Maxima.most_items, Views.name_view, Views.tree_view};
-ghost use Rattle.star_plan.specs.{declared.fault.PlanFault.TheVariants.OutOfMemory, Private.Answers.Resolves, Private.Answers.Tells, Private.Found.pairs_view, Private.Found.uses_view, Faults.plan_fault, Private.Stages.grouping_fault, Private.Stages.naming_fault, Joins.where_pairs};
-ghost use Rattle.star_plan.specs.{Naming.aggregate_names, Naming.resolved_key, Uses.uses_of, WellNamed.IsWellNamed, Resolved.IsResolved, Resolved.items_from, Resolved.option_all, Views.names_view, Views.plan_view};
+ghost use Rattle.star_plan.specs.{declared.fault.PlanFault.TheVariants.OutOfMemory, Private.Answers.{Resolves, Tells}, Private.Found.{pairs_view, uses_view}, Faults.plan_fault, Private.Stages.{grouping_fault, naming_fault}, Joins.where_pairs, Naming.{aggregate_names, resolved_key}, Uses.uses_of, WellNamed.IsWellNamed, Resolved.{IsResolved, items_from, option_all}, Views.{names_view, plan_view}};
 ghost use Rattle.star_plan.specs.Joins as spec;
 
 use crate::fault::PlanFault;
@@ -98,8 +97,7 @@ pub fn plan(alloc: Global, query: &Query) -> Result<Plan, PlanFault>
     // Only a well named query has one.
     ensures named { IfOk result (λ _. IsWellNamed (tree_view query.now)) }
     // Its tree is the query's, with the names resolved.
-    ensures resolved { IfOk result (λ plan. IsResolved (tree_view query.now)
-        (plan_view plan)) }
+    ensures resolved { IfOk result (λ plan. IsResolved (tree_view query.now) (plan_view plan)) }
     // A refusal is the first fault.
     ensures refused { IfErr result (λ fault. UnlessMemory OutOfMemory fault
         (plan_fault (tree_view query.now) ≡ Some fault)) }

@@ -11,10 +11,7 @@ pub struct Plan {
 }
 
 impl Model for Plan {
-    ghost use Rattle.star_plan.specs.declared.tree.PlanTree.{PlanTree};
-    ghost use Rattle.star_plan.specs.contracts.tree.PlanTree.{the_row};
-    ghost use Rattle.star_plan.specs.Planned.{IsPlanned};
-    ghost use Rattle.star_plan.specs.Views.{plan_view};
+    ghost use Rattle.star_plan.specs.{declared.tree.PlanTree.PlanTree, contracts.tree.PlanTree.the_row, Planned.IsPlanned, Views.plan_view};
 
     ghost Value = { PlanTree };
 
@@ -27,8 +24,7 @@ impl Model for Plan {
 
 impl Plan {
     ghost use Rattle.std.specs.Prelude.{◌≡◌};
-    ghost use Rattle.star_plan.specs.Planned.{IsPlanned};
-    ghost use Rattle.star_plan.specs.Views.{plan_view};
+    ghost use Rattle.star_plan.specs.{Planned.IsPlanned, Views.plan_view};
 
     /// The resolved query. `law::planned_queries_are_sound` states a property of every plan.
     pub fn tree(&self) -> &PlanTree

@@ -1,8 +1,7 @@
 // A query's names resolved, if each of them names something.
 
 ghost use Rattle.std.specs.Prelude.{◌≡◌, ◌+◌, ◌≤◌, [], ◌∷◌, IfOk, length, map, option_map};
-ghost use Rattle.star_query.specs.Views.{aggregate_view, condition_view, expression_view, item_view, literal_view, measure_view, name_view, test_view};
-ghost use Rattle.star_query.specs.{Maxima.most_items, Tree.between, Tree.compare, Tree.comparison};
+ghost use Rattle.star_query.specs.{Views.{aggregate_view, condition_view, expression_view, item_view, literal_view, measure_view, name_view, test_view}, Maxima.most_items, Tree.{between, compare, comparison}};
 ghost use Rattle.star_plan.specs.{Names.column_at, WellNamed.IsThere, Private.Answers.Resolves, Private.Answers.conditions_view};
 ghost use Rattle.star_plan.specs.Naming as naming;
 ghost use Rattle.star_plan.specs.Private.Stages as stages;

@@ -1,7 +1,6 @@
 // The tables of FROM, the groups and the items of a query.
 
-ghost use Rattle.std.specs.Prelude.{◌≡◌, ◌+◌, ◌<◌, ◌≤◌, ◌||◌, [], get_or, length, map, nat_eq, take};
-ghost use Rattle.std.specs.{List.list_any, Cmp.Lexicographic.pointwise, Result.result_err};
+ghost use Rattle.std.specs.{Prelude.{◌≡◌, ◌+◌, ◌<◌, ◌≤◌, ◌||◌, [], get_or, length, map, nat_eq, take}, List.list_any, Cmp.Lexicographic.pointwise, Result.result_err};
 ghost use Rattle.star_query.specs.{Limits.aggregates_in, Maxima.most_columns, Maxima.most_items, Views.aggregate_view, Views.item_view, Views.name_view};
 ghost use Rattle.star_plan.specs.{First.first_beside, Names.has_name, Resolved.items_from, Views.names_view, Private.Answers.IsNamedAt, Private.Answers.Resolves, Private.Answers.Tells};
 ghost use Rattle.star_plan.specs.Naming as spec;
@@ -23,8 +22,8 @@ fn check_table(before: &[Name], name: &Name) -> Result<(), PlanFault>
         (name_view name.now) }
 {
     match table_at(name) {
-        None => Err(PlanFault::UnknownName { at: name.place }),
-        Some(_) if has_name(before, &name.text) => Err(PlanFault::TableTwice { at: name.place }),
+        None => Err(PlanFault::UnknownName { at: name.offset }),
+        Some(_) if has_name(before, &name.text) => Err(PlanFault::TableTwice { at: name.offset }),
         Some(_) => Ok(()),
     }
 }
@@ -33,8 +32,8 @@ fn check_table(before: &[Name], name: &Name) -> Result<(), PlanFault>
 fn check_tables(tables: &[Name]) -> Result<(), PlanFault>
     ensures { result_err result ≡ first_beside faults.from_table_fault (map name_view tables.now) }
 {
-    for place in 0..tables.len() {
-        check_table(&tables[..place], &tables[place])?;
+    for index in 0..tables.len() {
+        check_table(&tables[..index], &tables[index])?;
     }
     Ok(())
 }
@@ -56,7 +55,7 @@ fn check_group(before: &[Name], name: &Name) -> Result<(), PlanFault>
         (name_view name.now) }
 {
     if has_name(before, &name.text) {
-        Err(PlanFault::DuplicateGroup { at: name.place })
+        Err(PlanFault::DuplicateGroup { at: name.offset })
     } else {
         Ok(())
     }
@@ -67,8 +66,8 @@ fn check_group(before: &[Name], name: &Name) -> Result<(), PlanFault>
 pub(crate) fn check_groups(groups: &[Name]) -> Result<(), PlanFault>
     ensures { result_err result ≡ first_beside faults.group_fault (map name_view groups.now) }
 {
-    for place in 0..groups.len() {
-        check_group(&groups[..place], &groups[place])?;
+    for index in 0..groups.len() {
+        check_group(&groups[..index], &groups[index])?;
     }
     Ok(())
 }
@@ -88,12 +87,12 @@ fn has_aggregate(aggregates: &[Aggregate], name: &[u8]) -> bool
     any_named(aggregates, name)
 }
 
-fn name_place(aggregate: &query::Aggregate) -> usize
-    ensures { result ≡ spec.name_place (aggregate_view aggregate.now) }
+fn name_offset(aggregate: &query::Aggregate) -> usize
+    ensures { result ≡ spec.name_offset (aggregate_view aggregate.now) }
 {
     match &aggregate.name {
-        Some(name) => name.place,
-        None => aggregate.place,
+        Some(name) => name.offset,
+        None => aggregate.offset,
     }
 }
 
@@ -104,23 +103,23 @@ fn is_taken(groups: &[Name], earlier: &[Aggregate], name: &[u8]) -> bool
     has_aggregate(earlier, name) || has_name(groups, name)
 }
 
-// Whether no aggregate before this place, and no group column, has the name of the aggregate there.
+// Whether no aggregate before this position, and no group column, has the name of the aggregate there.
 fn check_alias(
     groups: &[Name],
     aggregates: &[Aggregate],
-    place: u16,
+    index: u16,
     aggregate: &query::Aggregate,
 ) -> Result<(), PlanFault>
-    requires there { place < length aggregates.now }
-    requires named { get_or (names_view aggregates.now) place []
-        ≡ spec.name_of_aggregate (place + 1) (aggregate_view aggregate.now) }
+    requires there { index < length aggregates.now }
+    requires named { get_or (names_view aggregates.now) index []
+        ≡ spec.name_of_aggregate (index + 1) (aggregate_view aggregate.now) }
     ensures { result_err result ≡ stages.alias_fault (map name_view groups.now)
-        (take place (names_view aggregates.now)) (aggregate_view aggregate.now) }
+        (take index (names_view aggregates.now)) (aggregate_view aggregate.now) }
 {
-    let place = place as usize;
-    let name = aggregates[place].name.as_slice();
-    if is_taken(groups, &aggregates[..place], name) {
-        let at = name_place(aggregate);
+    let index = index as usize;
+    let name = aggregates[index].name.as_slice();
+    if is_taken(groups, &aggregates[..index], name) {
+        let at = name_offset(aggregate);
         Err(PlanFault::DuplicateAlias { at })
     } else {
         Ok(())
@@ -144,7 +143,7 @@ fn show_item(
     match item {
         Item::Column(name) => match key_column(groups, &name.text) {
             Some(column) => Ok(column),
-            None => Err(PlanFault::NotGrouped { at: name.place }),
+            None => Err(PlanFault::NotGrouped { at: name.offset }),
         },
         Item::Aggregate(aggregate) => {
             check_alias(groups, aggregates, before, aggregate)?;

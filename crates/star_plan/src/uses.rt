@@ -1,7 +1,6 @@
 // The columns that a query names, from the left.
 
-ghost use Rattle.std.specs.Prelude.{◌≡◌, ◌++◌, OnOk, IfOk, map};
-ghost use Rattle.std.specs.{Result.result_err};
+ghost use Rattle.std.specs.{Prelude.{◌≡◌, ◌++◌, OnOk, IfOk, map}, Result.result_err};
 ghost use Rattle.star_common.specs.First.{first_answer};
 ghost use Rattle.star_query.specs.Views.{condition_view, expression_view, item_view, literal_view, measure_view, name_view, test_view, tree_view};
 ghost use Rattle.star_schema.specs.Tables.{kind_of_value};
@@ -33,7 +32,7 @@ impl Use {
         Use {
             column: column_at(name),
             fits: true,
-            at: name.place,
+            at: name.offset,
         }
     }
 
@@ -44,7 +43,7 @@ impl Use {
         Use {
             column,
             fits: is_of(kind, column),
-            at: name.place,
+            at: name.offset,
         }
     }
 
@@ -56,13 +55,12 @@ impl Use {
         Use {
             column,
             fits: is_of(kind_of_literal(from), column) && is_of(kind_of_literal(upto), column),
-            at: name.place,
+            at: name.offset,
         }
     }
 
     fn scope_fault(&self, tables: &[Name]) -> Result<(), PlanFault>
-        ensures { result_err result ≡ scope_fault (map name_view tables.now)
-            (use_view self.now) }
+        ensures { result_err result ≡ scope_fault (map name_view tables.now) (use_view self.now) }
     {
         match self.column {
             None => Err(PlanFault::UnknownName { at: self.at }),

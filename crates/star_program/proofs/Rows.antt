@@ -1,7 +1,5 @@
 -- Rows in flat storage: how many there are, what stands at a number, and what is gathered.
-use Rattle.std.proofs.Common.{◌≡◌, ◌<◌, ◌≤◌, ◌*◌, ◌+◌, ℕ, zero, suc, List, [], ◌∷◌, length, map, get_or, take, drop, ap, sym, refl, ◌∙◌, arith}
-use Rattle.std.proofs.{lemmas.List.drop-drop, lemmas.List.get_or_past, lemmas.List.length-append, Math.Nat.add_comm, Math.Nat.suc-mul, Math.Nat.zero-mul, Math.Seq.drop-append_seam, Math.Seq.take-append_seam}
-use Rattle.std.specs.List.{flat_map}
+use Rattle.std.{proofs.Common.{◌≡◌, ◌<◌, ◌≤◌, ◌*◌, ◌+◌, ℕ, zero, suc, List, [], ◌∷◌, length, map, get_or, take, drop, ap, sym, refl, ◌∙◌, arith}, proofs.lemmas.List.{drop-drop, get_or_past, length-append}, proofs.Math.Nat.{add_comm, suc-mul, zero-mul}, proofs.Math.Seq.{drop-append_seam, take-append_seam}, specs.List.flat_map}
 use Rattle.star_program.specs.Rows.{cut}
 
 module _ {A : Type 0} (w : ℕ) where

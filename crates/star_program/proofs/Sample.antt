@@ -1,16 +1,13 @@
 -- A small catalogue and programs over it, as the worked rows want them.
-use Rattle.std.proofs.Common.{ℕ, List, [], ◌∷◌, None}
-use Rattle.std.specs.Prelude.{ℤ, pos, slice_index_or, codes}
-use Rattle.star_schema.specs.declared.{table.TableId.TableId, column.ColumnId.ColumnId, column.ColumnId.TheVariants.LoQuantity, column.ColumnId.TheVariants.LoLinenumber, column.ColumnId.TheVariants.LoExtendedprice, group.Shape.TheVariants.Plain, group.Aggregate.Aggregate}
-use Rattle.star_schema.specs.declared.table.TableId.TheVariants.{Date, Customer, Supplier, Part, Lineorder}
+use Rattle.std.{proofs.Common.{ℕ, List, [], ◌∷◌, None}, specs.Prelude.{ℤ, pos, slice_index_or, codes}}
+use Rattle.star_schema.specs.declared.{table.TableId.TableId, column.ColumnId.ColumnId, column.ColumnId.TheVariants.{LoQuantity, LoLinenumber, LoExtendedprice}, group.Shape.TheVariants.Plain, group.Aggregate.Aggregate, table.TableId.TheVariants.{Date, Customer, Supplier, Part, Lineorder}}
 use Rattle.star_schema.specs.declared.group.Aggregate.TheVariants as aggregate
 use Rattle.star_schema.specs.declared.group.GroupColumn.TheVariants as column
 use Rattle.star_interval.specs.Range.{Range, only}
-use Rattle.star_program.specs.declared.{group.GroupDecl.GroupDecl, op.Operation.Operation, program.Parts.Parts}
+use Rattle.star_program.specs.{declared.group.GroupDecl.GroupDecl, declared.op.Operation.Operation, declared.program.Parts.Parts, Code.{Code, Stop, Then, Each}, World.World}
 use Rattle.star_program.specs.declared.op.Op.TheVariants as op
 use Rattle.star_program.specs.declared.op.Operation.TheVariants as operation
 use Rattle.star_program.specs.declared.op.Operator.TheVariants as operator
-use Rattle.star_program.specs.{Code.Code, Code.Stop, Code.Then, Code.Each, World.World}
 
 -- ---- catalogues
 

@@ -1,23 +1,13 @@
 -- What each instruction does to registers and counts, and when it traps, at the ends of 64 bits and
 -- of 128; what programs end with; and what is wrong with a report.
-use Rattle.std.proofs.Common.{◌≡◌, ℕ, ℤ, Bool, true, false, List, [], ◌∷◌, Option, Some, None, pos, negsuc, refl}
-use Rattle.std.specs.Prelude.{◌^◌, codes, map}
+use Rattle.std.{proofs.Common.{◌≡◌, ℕ, ℤ, Bool, true, false, List, [], ◌∷◌, Option, Some, None, pos, negsuc, refl}, specs.Prelude.{◌^◌, codes, map}}
 use Rattle.star_common.proofs.Tables.{Gives, Gives2, Gives3}
-use Rattle.star_schema.specs.declared.{column.ColumnId.TheVariants.CRegion, column.ColumnId.TheVariants.LoQuantity, group.Aggregate.TheVariants.Count, group.Aggregate.TheVariants.Max, group.Aggregate.TheVariants.Min, group.Aggregate.TheVariants.Sum, group.Direction.TheVariants.Ascending, group.Shape.TheVariants.Plain, table.TableId.TheVariants.Customer, table.TableId.TheVariants.Date, table.TableId.TheVariants.Lineorder}
+use Rattle.star_schema.specs.{declared.column.ColumnId.TheVariants.{CRegion, LoQuantity}, declared.group.Aggregate.TheVariants.{Count, Max, Min, Sum}, declared.group.Direction.TheVariants.Ascending, declared.group.Shape.TheVariants.Plain, declared.table.TableId.TheVariants.{Customer, Date, Lineorder}, Schema.column_of}
 use Rattle.star_schema.specs.declared.group.GroupColumn.TheVariants as column
-use Rattle.star_schema.specs.Schema.{column_of}
 use Rattle.star_interval.specs.Range.{is_i64, is_i128}
 use Rattle.star_program.specs.declared.group.GroupKey.TheVariants as declared
 use Rattle.star_program.specs.declared.key.KeyValue.TheVariants as key
-use Rattle.star_program.specs.declared.{op.Edge.TheVariants.High, op.Edge.TheVariants.Low, op.Op.TheVariants.Assign, op.Op.TheVariants.Keep, op.Op.TheVariants.Put, program.Parts.Parts, fault.TrapKind.TrapKind, fault.TrapKind.TheVariants.Wrong, fault.TrapKind.TheVariants.AbsentKey, fault.TrapKind.TheVariants.Overflow, value.Value.Value}
-use Rattle.star_program.specs.declared.op.Operation.TheVariants.{Const, Edge, Load, Find, Binary, Within, Not, Read}
-use Rattle.star_program.specs.declared.op.Operator.TheVariants.{Add, Sub, Mul, Less, LessOrEqual, Equal, And, Or}
-use Rattle.star_program.specs.declared.fault.Fault.TheVariants.{BadGroup, BadRegister, Misplaced, Unset, WrongKind}
-use Rattle.star_program.specs.declared.value.Value.TheVariants.{Number, Text, Place, Row, Flag}
-use Rattle.star_program.specs.{Code.Each, Code.Stop, Code.Then, Faults.group_at, Private.Doing.fitting, Puts.Update, Puts.overflows, Puts.total_over, ShowLines.shown_fault, Values.Registers, Values.no_registers, Values.with_entry, World.World}
-use Rattle.star_program.specs.Effects.{Effect, EndsTurn, GoesOn, State, Traps, act, answer_of, empty_state}
-use Rattle.star_program.specs.Run.{End, Ended, Limited, Trapped, bounded_run_of, run_of}
-use Rattle.star_program.proofs.Sample.{sample, great_prices, assign, counting, plain, program, above_average, find_by_quantity, read_while_putting, written_twice, keep_outside, shows_no_key, scan_in_scan, doubled_difference}
+use Rattle.star_program.{specs.declared.op.Edge.TheVariants.{High, Low}, specs.declared.op.Op.TheVariants.{Assign, Keep, Put}, specs.declared.program.Parts.Parts, specs.declared.fault.TrapKind.TrapKind, specs.declared.fault.TrapKind.TheVariants.{Wrong, AbsentKey, Overflow}, specs.declared.value.Value.Value, specs.declared.op.Operation.TheVariants.{Const, Edge, Load, Find, Binary, Within, Not, Read}, specs.declared.op.Operator.TheVariants.{Add, Sub, Mul, Less, LessOrEqual, Equal, And, Or}, specs.declared.fault.Fault.TheVariants.{BadGroup, BadRegister, Misplaced, Unset, WrongKind}, specs.declared.value.Value.TheVariants.{Number, Text, Place, Row, Flag}, specs.Code.{Each, Stop, Then}, specs.Faults.group_at, specs.Private.Doing.fitting, specs.Puts.{Update, overflows, total_over}, specs.ShowLines.shown_fault, specs.Values.{Registers, no_registers, with_entry}, specs.World.World, specs.Effects.{Effect, EndsTurn, GoesOn, State, Traps, act, answer_of, empty_state}, specs.Run.{End, Ended, Limited, Trapped, bounded_run_of, run_of}, proofs.Sample.{sample, great_prices, assign, counting, plain, program, above_average, find_by_quantity, read_while_putting, written_twice, keep_outside, shows_no_key, scan_in_scan, doubled_difference}}
 
 -- ---- what stands in registers
 
@@ -40,21 +30,19 @@ number z = Some (Number z)
 abbrev flag : Bool → Option Value
 flag b = Some (Flag b)
 
-operators : Gives3 (λ o x y. fitting (answer_of o (number x) (number y))) (
-    (Add, pos 2, negsuc 4, number (negsuc 2)) ∷ (Add, most, pos 0, number most)
+operators : Gives3 (λ o x y. fitting (answer_of o (number x) (number y)))
+    ((Add, pos 2, negsuc 4, number (negsuc 2)) ∷ (Add, most, pos 0, number most)
     ∷ (Add, most, pos 1, None) ∷ (Add, least, negsuc 0, None)
     ∷ (Sub, pos 2, pos 5, number (negsuc 2)) ∷ (Sub, least, pos 0, number least)
     ∷ (Sub, least, pos 1, None) ∷ (Sub, pos 0, least, None)
     ∷ (Mul, pos 3, negsuc 4, number (negsuc 14)) ∷ (Mul, most, pos 1, number most)
-    ∷ (Mul, least, negsuc 0, None)
-    ∷ (Less, pos 2, pos 3, flag true) ∷ (Less, pos 3, pos 3, flag false)
-    ∷ (Less, pos 3, negsuc 3, flag false)
+    ∷ (Mul, least, negsuc 0, None) ∷ (Less, pos 2, pos 3, flag true)
+    ∷ (Less, pos 3, pos 3, flag false) ∷ (Less, pos 3, negsuc 3, flag false)
     ∷ (LessOrEqual, pos 2, pos 3, flag true) ∷ (LessOrEqual, pos 3, pos 3, flag true)
-    ∷ (LessOrEqual, pos 3, pos 2, flag false)
-    ∷ (Equal, pos 3, pos 3, flag true) ∷ (Equal, pos 2, pos 3, flag false)
-    ∷ (Equal, pos 3, pos 2, flag false) ∷ [])
-    × Gives3 (λ o p q. fitting (answer_of o (flag p) (flag q))) (
-    (And, true, true, flag true) ∷ (And, true, false, flag false) ∷ (And, false, true, flag false)
+    ∷ (LessOrEqual, pos 3, pos 2, flag false) ∷ (Equal, pos 3, pos 3, flag true)
+    ∷ (Equal, pos 2, pos 3, flag false) ∷ (Equal, pos 3, pos 2, flag false) ∷ [])
+    × Gives3 (λ o p q. fitting (answer_of o (flag p) (flag q)))
+    ((And, true, true, flag true) ∷ (And, true, false, flag false) ∷ (And, false, true, flag false)
     ∷ (Or, false, false, flag false) ∷ (Or, true, false, flag true) ∷ (Or, false, true, flag true)
     ∷ [])
 unfolding is_i64
@@ -131,7 +119,8 @@ an_update = record { keys = key.Number (negsuc 2) ∷ []; values = pos 1 ∷ neg
 -- a store with one update of each group, of this number for its SUM
 abbrev put_of : ℤ → State
 put_of z = record empty_state {
-  updates_of = λ g. record { keys = key.Number (negsuc 2) ∷ []; values = pos 1 ∷ z ∷ pos 0 ∷ [] } ∷ [];
+  updates_of = λ g. record { keys = key.Number (negsuc 2) ∷ []; values = pos 1 ∷ z ∷ pos 0 ∷ [] }
+      ∷ [];
 }
 
 abbrev a_put : State → Effect
@@ -152,15 +141,13 @@ puts = (refl, refl, refl)
 
 -- a read gives the total, and traps where that leaves 64 bits; its default counts where there is
 -- none, and there alone
-reads : Gives3 (λ s a d. seen (act regions parts true few s (Assign 6 (Read 0 a d)))) (
-    (put_of (negsuc 2), 0, pos (2 ^ 63), makes (number (pos 1)))
+reads : Gives3 (λ s a d. seen (act regions parts true few s (Assign 6 (Read 0 a d))))
+    ((put_of (negsuc 2), 0, pos (2 ^ 63), makes (number (pos 1)))
     ∷ (put_of (negsuc 2), 1, pos (2 ^ 63), makes (number (negsuc 2)))
     ∷ (put_of (negsuc 2), 2, pos (2 ^ 63), makes (number (pos 0)))
-    ∷ (put_of most, 1, pos 0, makes (number most))
-    ∷ (put_of least, 1, pos 0, makes (number least))
+    ∷ (put_of most, 1, pos 0, makes (number most)) ∷ (put_of least, 1, pos 0, makes (number least))
     ∷ (put_of (pos 9223372036854775808), 1, pos 0, trapped Overflow)
-    ∷ (put_of (negsuc 9223372036854775808), 1, pos 0, trapped Overflow)
-    ∷ [])
+    ∷ (put_of (negsuc 9223372036854775808), 1, pos 0, trapped Overflow) ∷ [])
 unfolding is_i64
 reads = refl
 
@@ -176,18 +163,18 @@ abbrev least_sum : ℤ
 least_sum = negsuc 170141183460469231731687303715884105727
 
 -- only a SUM or a COUNT leaves its bits, over its own group or over all updates; a SUM may leave 64
-overflowing : Gives2 (overflows Plain (Min ∷ Sum ∷ [])) (
-    ([], one (pos 1) least_sum most_sum, false)
+overflowing : Gives2 (overflows Plain (Min ∷ Sum ∷ []))
+    (([], one (pos 1) least_sum most_sum, false)
     ∷ (one (pos 1) most_sum (pos 1) ∷ [], one (pos 1) most_sum (negsuc 0), false)
     ∷ (one (pos 1) (pos 0) most_sum ∷ [], one (pos 1) (pos 0) (pos 1), true)
     ∷ (one (pos 2) (pos 0) least_sum ∷ [], one (pos 1) (pos 0) (negsuc 0), true)
     ∷ (one (pos 1) (pos 0) most ∷ [], one (pos 1) (pos 0) (pos 1), false)
     ∷ (
-      one (pos 2) (pos 0) (negsuc 0) ∷ one (pos 1) (pos 0) most_sum ∷ [],
+      one (pos 2) (pos 0) (negsuc 0) ∷ one (pos 1) (pos 0) most_sum
+          ∷ [],
       one (pos 1) (pos 0) (pos 1),
       true,
-    )
-    ∷ [])
+    ) ∷ [])
 unfolding is_i128
 overflowing = refl
 
@@ -196,8 +183,8 @@ overflowing = refl
 abbrev reporting : ℕ → List ℕ → List ℕ → Parts
 reporting g shows sorts = record parts {
   report = g;
-  shows = map (λ place. record { name = codes "n"; column = column.Aggregate place }) shows;
-  sorts = map (λ place. record { column = column.Key place; direction = Ascending }) sorts;
+  shows = map (λ index. record { name = codes "n"; column = column.Aggregate index }) shows;
+  sorts = map (λ index. record { column = column.Key index; direction = Ascending }) sorts;
 }
 
 -- sort lines follow the show lines
@@ -231,26 +218,20 @@ quantities = program 3 (plain (Sum ∷ []) ∷ []) 0
 
 -- what is written twice holds what was written last; a scan in a scan counts each time that it is
 -- met; of three registers the last may be a scan's, and the next traps also over no rows
-runs : Gives2 (λ w p. ended p (run_of w p)) (
-    (sample, above_average, ends 10 7 2)
-    ∷ (sample, find_by_quantity, ([], Some (3, AbsentKey)))
-    ∷ (sample, written_twice, ends 0 1 2)
-    ∷ (sample, keep_outside, ([], Some (3, Wrong Misplaced)))
+runs : Gives2 (λ w p. ended p (run_of w p))
+    ((sample, above_average, ends 10 7 2) ∷ (sample, find_by_quantity, ([], Some (3, AbsentKey)))
+    ∷ (sample, written_twice, ends 0 1 2) ∷ (sample, keep_outside, ([], Some (3, Wrong Misplaced)))
     ∷ (sample, scan_in_scan, ends 9 6 6)
     ∷ (great_prices, doubled_difference, ([], Some (12, Overflow)))
     ∷ (sample, quantities, ends 5 5 115)
     ∷ (great_prices, counting (Each Date 2 Stop Stop), ends 0 0 0)
-    ∷ (great_prices, counting (Each Date 3 Stop Stop), ([], Some (1, Wrong BadRegister)))
-    ∷ [])
+    ∷ (great_prices, counting (Each Date 3 Stop Stop), ([], Some (1, Wrong BadRegister))) ∷ [])
 unfolding column_of is_i64 is_i128
 runs = refl
 
 -- as many turns may begin as are allowed, and no more
-bounded_runs : Gives2 (λ most p. ended p (bounded_run_of sample most p)) (
-    (9, above_average, ([], None))
-    ∷ (10, above_average, ends 10 7 2)
-    ∷ (5, read_while_putting, ends 5 5 5)
-    ∷ (0, shows_no_key, ([], Some (0, Wrong BadGroup)))
-    ∷ [])
+bounded_runs : Gives2 (λ most p. ended p (bounded_run_of sample most p))
+    ((9, above_average, ([], None)) ∷ (10, above_average, ends 10 7 2)
+    ∷ (5, read_while_putting, ends 5 5 5) ∷ (0, shows_no_key, ([], Some (0, Wrong BadGroup))) ∷ [])
 unfolding column_of is_i64 is_i128
 bounded_runs = refl

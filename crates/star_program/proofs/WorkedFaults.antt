@@ -1,16 +1,10 @@
 -- What is wrong with an instruction, kind by kind, and in which order it is told.
-use Rattle.std.proofs.Common.{true, false, [], ◌∷◌, Option, Some, None, pos, refl}
-use Rattle.std.specs.Prelude.{codes, slice_index_or}
-use Rattle.star_schema.specs.declared.{column.ColumnId.TheVariants.CName, column.ColumnId.TheVariants.CRegion, column.ColumnId.TheVariants.DYear, group.Aggregate.TheVariants.Count, group.Aggregate.TheVariants.Sum, group.Shape.TheVariants.Plain, table.TableId.TheVariants.Customer, table.TableId.TheVariants.Date}
+use Rattle.std.{proofs.Common.{true, false, [], ◌∷◌, Option, Some, None, pos, refl}, specs.Prelude.{codes, slice_index_or}}
+use Rattle.star_schema.specs.{declared.column.ColumnId.TheVariants.{CName, CRegion, DYear}, declared.group.Aggregate.TheVariants.{Count, Sum}, declared.group.Shape.TheVariants.Plain, declared.table.TableId.TheVariants.{Customer, Date}, Schema.column_of}
 use Rattle.star_common.proofs.Tables.{Gives2, Gives3}
-use Rattle.star_schema.specs.Schema.{column_of}
 use Rattle.star_program.specs.declared.group.GroupKey.TheVariants as declared
-use Rattle.star_program.specs.declared.{op.Edge.TheVariants.Low, op.Op.Op, op.Op.TheVariants.Assign, op.Op.TheVariants.Keep, op.Op.TheVariants.Put, op.Operation.Operation, program.Parts.Parts, fault.Fault.Fault}
-use Rattle.star_program.specs.declared.op.Operation.TheVariants.{Const, Edge, Load, Find, Binary, Within, Not, Read}
-use Rattle.star_program.specs.declared.op.Operator.TheVariants.{Add, Sub, Mul, Less, LessOrEqual, Equal, And, Or}
-use Rattle.star_program.specs.declared.fault.Fault.TheVariants.{BadRegister, Unset, WrongKind, BadColumn, BadGroup, Misplaced}
+use Rattle.star_program.specs.{declared.op.Edge.TheVariants.Low, declared.op.Op.Op, declared.op.Op.TheVariants.{Assign, Keep, Put}, declared.op.Operation.Operation, declared.program.Parts.Parts, declared.fault.Fault.Fault, declared.op.Operation.TheVariants.{Const, Edge, Load, Find, Binary, Within, Not, Read}, declared.op.Operator.TheVariants.{Add, Sub, Mul, Less, LessOrEqual, Equal, And, Or}, declared.fault.Fault.TheVariants.{BadRegister, Unset, WrongKind, BadColumn, BadGroup, Misplaced}, Code.Stop, Faults.{Kinds, fault_of}}
 use Rattle.star_program.specs.declared.value.Kind.TheVariants as kind
-use Rattle.star_program.specs.{Code.Stop, Faults.Kinds, Faults.fault_of}
 
 -- seven registers, and a group by a number and a region that counts and sums
 abbrev parts : Parts
@@ -27,7 +21,7 @@ parts = record {
   sorts = [];
 }
 
--- in turn a number, a region, a truth value, a place among regions, a row of dates, a name and
+-- in turn a number, a region, a truth value, a position among regions, a row of dates, a name and
 -- nothing
 abbrev kinds : Kinds
 kinds r = slice_index_or
@@ -44,16 +38,15 @@ abbrev wrong_kind : Option Fault
 wrong_kind = Some WrongKind
 
 -- of a put the group first, where a COUNT has no number, then the keys from the left, each a number
--- or a text of its own column and no place, and then the numbers
-keeps_and_puts : Gives2 (λ inside op. fault_of parts inside None kinds op) (
-    (false, Keep 2, Some Misplaced) ∷ (true, Keep 2, None) ∷ (true, Keep 0, wrong_kind)
+-- or a text of its own column and no position, and then the numbers
+keeps_and_puts : Gives2 (λ inside op. fault_of parts inside None kinds op)
+    ((false, Keep 2, Some Misplaced) ∷ (true, Keep 2, None) ∷ (true, Keep 0, wrong_kind)
     ∷ (true, Keep 1, wrong_kind) ∷ (true, Keep 4, wrong_kind) ∷ (true, Keep 6, Some Unset)
-    ∷ (true, Keep 7, Some BadRegister)
-    ∷ (true, Put 0 (0 ∷ 1 ∷ []) (0 ∷ []), None) ∷ (false, Put 0 (0 ∷ 1 ∷ []) (0 ∷ []), None)
-    ∷ (true, Put 1 [] [], Some BadGroup) ∷ (true, Put 0 (0 ∷ []) (0 ∷ []), Some BadGroup)
+    ∷ (true, Keep 7, Some BadRegister) ∷ (true, Put 0 (0 ∷ 1 ∷ []) (0 ∷ []), None)
+    ∷ (false, Put 0 (0 ∷ 1 ∷ []) (0 ∷ []), None) ∷ (true, Put 1 [] [], Some BadGroup)
+    ∷ (true, Put 0 (0 ∷ []) (0 ∷ []), Some BadGroup)
     ∷ (true, Put 0 (0 ∷ 1 ∷ []) (0 ∷ 0 ∷ []), Some BadGroup)
-    ∷ (true, Put 0 (0 ∷ 1 ∷ []) [], Some BadGroup)
-    ∷ (true, Put 0 (1 ∷ 1 ∷ []) (0 ∷ []), wrong_kind)
+    ∷ (true, Put 0 (0 ∷ 1 ∷ []) [], Some BadGroup) ∷ (true, Put 0 (1 ∷ 1 ∷ []) (0 ∷ []), wrong_kind)
     ∷ (true, Put 0 (0 ∷ 3 ∷ []) (0 ∷ []), wrong_kind)
     ∷ (true, Put 0 (0 ∷ 5 ∷ []) (0 ∷ []), wrong_kind)
     ∷ (true, Put 0 (0 ∷ 0 ∷ []) (0 ∷ []), wrong_kind)
@@ -61,8 +54,7 @@ keeps_and_puts : Gives2 (λ inside op. fault_of parts inside None kinds op) (
     ∷ (true, Put 1 (7 ∷ []) (6 ∷ []), Some BadGroup)
     ∷ (true, Put 0 (7 ∷ 6 ∷ []) (6 ∷ []), Some BadRegister)
     ∷ (true, Put 0 (6 ∷ 7 ∷ []) (1 ∷ []), Some Unset)
-    ∷ (true, Put 0 (0 ∷ 6 ∷ []) (7 ∷ []), Some Unset)
-    ∷ [])
+    ∷ (true, Put 0 (0 ∷ 6 ∷ []) (7 ∷ []), Some Unset) ∷ [])
 unfolding column_of
 keeps_and_puts = refl
 
@@ -93,19 +85,18 @@ assignments : Gives2 (λ other op. fault_of parts true other kinds op) (
 unfolding column_of
 assignments = refl
 
--- numbers are added, truths joined; numbers compare, and texts and places of one column in each of
--- the four ways; and the left operand's fault comes before the right one's
-operators : Gives3 (λ o l r. fault_of parts true None kinds (to (Binary o l r))) (
-    (Add, 0, 0, None) ∷ (Sub, 0, 0, None) ∷ (Mul, 0, 0, None)
-    ∷ (Add, 2, 0, wrong_kind) ∷ (Sub, 2, 0, wrong_kind) ∷ (Mul, 2, 0, wrong_kind)
-    ∷ (Add, 0, 1, wrong_kind) ∷ (Sub, 0, 1, wrong_kind) ∷ (Mul, 0, 1, wrong_kind)
-    ∷ (And, 2, 2, None) ∷ (And, 0, 2, wrong_kind) ∷ (And, 2, 0, wrong_kind)
-    ∷ (Or, 2, 2, None) ∷ (Or, 0, 2, wrong_kind) ∷ (Or, 2, 0, wrong_kind)
-    ∷ (Less, 0, 0, None) ∷ (LessOrEqual, 0, 0, None) ∷ (Equal, 0, 0, None)
+-- numbers are added, truths joined; numbers compare, and texts and positions of one column in each
+-- of the four ways; and the left operand's fault comes before the right one's
+operators : Gives3 (λ o l r. fault_of parts true None kinds (to (Binary o l r)))
+    ((Add, 0, 0, None) ∷ (Sub, 0, 0, None) ∷ (Mul, 0, 0, None) ∷ (Add, 2, 0, wrong_kind)
+    ∷ (Sub, 2, 0, wrong_kind) ∷ (Mul, 2, 0, wrong_kind) ∷ (Add, 0, 1, wrong_kind)
+    ∷ (Sub, 0, 1, wrong_kind) ∷ (Mul, 0, 1, wrong_kind) ∷ (And, 2, 2, None)
+    ∷ (And, 0, 2, wrong_kind) ∷ (And, 2, 0, wrong_kind) ∷ (Or, 2, 2, None) ∷ (Or, 0, 2, wrong_kind)
+    ∷ (Or, 2, 0, wrong_kind) ∷ (Less, 0, 0, None) ∷ (LessOrEqual, 0, 0, None) ∷ (Equal, 0, 0, None)
     ∷ (Less, 1, 1, None) ∷ (LessOrEqual, 1, 3, None) ∷ (Equal, 3, 1, None) ∷ (Less, 3, 3, None)
     ∷ (Less, 1, 5, wrong_kind) ∷ (Less, 3, 5, wrong_kind) ∷ (Less, 5, 3, wrong_kind)
     ∷ (Equal, 5, 1, wrong_kind) ∷ (Less, 0, 1, wrong_kind) ∷ (LessOrEqual, 1, 0, wrong_kind)
-    ∷ (Equal, 2, 2, wrong_kind) ∷ (Equal, 4, 4, wrong_kind)
-    ∷ (Add, 6, 7, Some Unset) ∷ (Add, 7, 6, Some BadRegister) ∷ (And, 6, 0, Some Unset)
-    ∷ (Less, 6, 7, Some Unset) ∷ (Less, 2, 7, wrong_kind) ∷ [])
+    ∷ (Equal, 2, 2, wrong_kind) ∷ (Equal, 4, 4, wrong_kind) ∷ (Add, 6, 7, Some Unset)
+    ∷ (Add, 7, 6, Some BadRegister) ∷ (And, 6, 0, Some Unset) ∷ (Less, 6, 7, Some Unset)
+    ∷ (Less, 2, 7, wrong_kind) ∷ [])
 operators = refl

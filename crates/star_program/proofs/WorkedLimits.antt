@@ -1,14 +1,9 @@
 -- The limits of programs; how keys compare; what cells and codes say; and worlds that are loaded.
-use Rattle.std.proofs.Common.{◌≡◌, ◌↔◌, ◌<◌, ◌≤◌, ℕ, List, [], ◌∷◌, Option, Some, None, true, false, length, pos, negsuc, refl}
-use Rattle.std.specs.{Prelude.All, Prelude.codes, Borrow.Bor, declared.cmp.Ordering.TheVariants.Less, declared.cmp.Ordering.TheVariants.Equal, declared.cmp.Ordering.TheVariants.Greater}
+use Rattle.std.{proofs.Common.{◌≡◌, ◌↔◌, ◌<◌, ◌≤◌, ℕ, List, [], ◌∷◌, Option, Some, None, true, false, length, pos, negsuc, refl}, specs.Prelude.{All, codes}, specs.Borrow.Bor, specs.declared.cmp.Ordering.TheVariants.{Less, Equal, Greater}}
 use Rattle.star_common.proofs.Tables.{Gives, Gives2}
-use Rattle.star_schema.specs.{declared.column.ColumnId.ColumnId, declared.column.ColumnId.TheVariants.CRegion, declared.group.Aggregate.TheVariants.Count, declared.group.Aggregate.TheVariants.Max, declared.group.Aggregate.TheVariants.Sum, declared.table.TableId.TableId}
-use Rattle.star_schema.specs.{declared.table.TableId.TheVariants.Customer, declared.table.TableId.TheVariants.Date, Schema.references, Schema.table_of, Tables.Number, Tables.Text}
+use Rattle.star_schema.specs.{declared.column.ColumnId.ColumnId, declared.column.ColumnId.TheVariants.CRegion, declared.group.Aggregate.TheVariants.{Count, Max, Sum}, declared.table.TableId.TableId, declared.table.TableId.TheVariants.{Customer, Date}, Schema.{references, table_of}, Tables.{Number, Text}}
 use Rattle.star_interval.specs.Range.{Holds, is_i64, is_i128}
-use Rattle.star_program.specs.World.{IsLoaded, IsRowNumberOf, World, edge_of, is_text}
-use Rattle.star_program.specs.{declared.group.GroupDecl.GroupDecl, declared.op.Edge.Edge, declared.program.Parts.Parts, CellViews.cell_viewed, Code.code_size, Code.scan_depth, Faults.is_row_of, Keys.key_value_cmp, Limits.IsSmall, Limits.IsWithinLimits, Outcome.decoded}
-use Rattle.star_program.specs.{Outcome.decoded_keys, Puts.leaves}
-use Rattle.star_program.proofs.Sample.{sample}
+use Rattle.star_program.{specs.World.{IsLoaded, IsRowNumberOf, World, edge_of, is_text}, specs.declared.group.GroupDecl.GroupDecl, specs.declared.op.Edge.Edge, specs.declared.program.Parts.Parts, specs.CellViews.cell_viewed, specs.Code.{code_size, scan_depth}, specs.Faults.is_row_of, specs.Keys.key_value_cmp, specs.Limits.{IsSmall, IsWithinLimits}, specs.Outcome.{decoded, decoded_keys}, specs.Puts.leaves, proofs.Sample.sample}
 use Rattle.star_program.specs.declared.group.GroupKey.TheVariants as declared
 use Rattle.star_program.specs.declared.key.KeyValue.TheVariants as key
 use Rattle.star_program.specs.declared.outcome.Cell.TheVariants as cell
@@ -56,21 +51,18 @@ found n = (refl, refl)
 
 -- ---- how keys compare, and what leaves its bits: a SUM 128, a COUNT 64
 
-keys : Gives2 key_value_cmp (
-    (key.Number (pos 9), key.Number (pos 10), Less)
-    ∷ (key.Number (pos 1), key.Number (negsuc 4), Greater)
-    ∷ (key.Code 9, key.Code 10, Less) ∷ (key.Code 3, key.Code 3, Equal)
-    ∷ (key.Number (pos 9), key.Code 0, Less) ∷ (key.Code 0, key.Number (pos 9), Greater) ∷ [])
+keys : Gives2 key_value_cmp ((key.Number (pos 9), key.Number (pos 10), Less)
+    ∷ (key.Number (pos 1), key.Number (negsuc 4), Greater) ∷ (key.Code 9, key.Code 10, Less)
+    ∷ (key.Code 3, key.Code 3, Equal) ∷ (key.Number (pos 9), key.Code 0, Less)
+    ∷ (key.Code 0, key.Number (pos 9), Greater) ∷ [])
 keys = refl
 
-leaving : Gives2 leaves (
-    (Sum, Some (pos 170141183460469231731687303715884105728), true)
+leaving : Gives2 leaves ((Sum, Some (pos 170141183460469231731687303715884105728), true)
     ∷ (Sum, Some (pos 170141183460469231731687303715884105727), false)
     ∷ (Sum, Some (negsuc 170141183460469231731687303715884105728), true)
     ∷ (Sum, Some (negsuc 170141183460469231731687303715884105727), false)
     ∷ (Sum, Some (pos 9223372036854775808), false) ∷ (Sum, None, false)
-    ∷ (Count, Some (pos 9223372036854775808), true)
-    ∷ (Count, Some (pos 9223372036854775807), false)
+    ∷ (Count, Some (pos 9223372036854775808), true) ∷ (Count, Some (pos 9223372036854775807), false)
     ∷ (Max, Some (pos 170141183460469231731687303715884105728), false) ∷ [])
 unfolding is_i64 is_i128
 leaving = refl

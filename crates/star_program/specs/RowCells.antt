@@ -18,5 +18,5 @@ total_cell (Some z) = cell.Number z
 
 -- the cell of a row in a column
 abbrev pub cell_of : GroupRow Value → GroupColumn → Cell
-cell_of row (column.Key place) = key_cell (slice_index_or row.keys place None)
-cell_of row (column.Aggregate place) = total_cell (slice_index_or row.totals place None)
+cell_of row (column.Key index) = key_cell (slice_index_or row.keys index None)
+cell_of row (column.Aggregate index) = total_cell (slice_index_or row.totals index None)

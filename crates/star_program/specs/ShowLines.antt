@@ -5,8 +5,8 @@ use Rattle.star_program.specs.{declared.group.GroupDecl.GroupDecl, declared.prog
 
 -- the group has the column
 abbrev pub has_column : GroupDecl → GroupColumn → Bool
-has_column d (Key place) = nat_lt place (length d.keys)
-has_column d (Aggregate place) = nat_lt place (length d.aggregates)
+has_column d (Key index) = nat_lt index (length d.keys)
+has_column d (Aggregate index) = nat_lt index (length d.aggregates)
 
 -- the columns that the show lines, then the sort lines name
 abbrev pub named_columns : Parts → List GroupColumn

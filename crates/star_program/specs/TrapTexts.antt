@@ -1,7 +1,6 @@
 -- The printed form of traps.
 use Rattle.std.specs.Prelude.{ℕ, List, codes}
-use Rattle.star_program.specs.declared.fault.{Fault.Fault, TrapKind.TrapKind, TrapKind.TheVariants.Wrong, TrapKind.TheVariants.AbsentKey, TrapKind.TheVariants.Overflow}
-use Rattle.star_program.specs.declared.fault.Fault.TheVariants.{BadRegister, WrittenTwice, Unset, WrongKind, BadColumn, BadGroup, Misplaced}
+use Rattle.star_program.specs.declared.fault.{Fault.Fault, TrapKind.TrapKind, TrapKind.TheVariants.{Wrong, AbsentKey, Overflow}, Fault.TheVariants.{BadRegister, WrittenTwice, Unset, WrongKind, BadColumn, BadGroup, Misplaced}}
 
 unfoldable pub wrong_text : Fault → List ℕ
 wrong_text BadRegister = codes "BadRegister"

@@ -29,15 +29,13 @@ pub enum Step {
 }
 
 impl Model for Body {
-    ghost use Rattle.star_program.specs.Code.{Code};
-    ghost use Rattle.star_program.specs.Private.StoredCode.{code_coded};
+    ghost use Rattle.star_program.specs.{Code.Code, Private.StoredCode.code_coded};
 
     ghost Value = { Code };
 
     ghost coded = { code_coded };
 
-    ghost use Rattle.star_program.specs.CodeOfSteps.{code_of_steps};
-    ghost use Rattle.star_program.specs.Code.{code_size};
+    ghost use Rattle.star_program.specs.{CodeOfSteps.code_of_steps, Code.code_size};
     ghost use Rattle.std.proofs.Common.{arith};
 
     ghost view = { λ body. code_of_steps body.steps.items };

@@ -1,7 +1,6 @@
 // The values of keys.
 
-ghost use Rattle.std.specs.Cmp.Rules.{comparing};
-ghost use Rattle.std.proofs.Common.{rules};
+ghost use Rattle.std.{specs.Cmp.Rules.comparing, proofs.Common.rules};
 ghost use Rattle.star_program.specs.Keys.{value_eq};
 
 /// A key's value: a number, or the code of a text in its column's dictionary.

@@ -87,8 +87,7 @@ pub struct Program {
 }
 
 impl Model for Program {
-    ghost use Rattle.star_program.specs.declared.program.Parts.{Parts};
-    ghost use Rattle.star_program.specs.contracts.program.Parts.{the_row};
+    ghost use Rattle.star_program.specs.{declared.program.Parts.Parts, contracts.program.Parts.the_row};
 
     ghost Value = { Parts };
 

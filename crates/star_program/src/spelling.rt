@@ -9,10 +9,10 @@ mod lines;
 mod listed;
 mod numerals;
 pub(crate) mod parsing;
-mod place;
 pub(crate) mod program_lines;
 mod reading;
 mod statement;
+mod text_state;
 mod writing;
 
 pub use fault::TextFault;

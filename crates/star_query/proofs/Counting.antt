@@ -1,10 +1,6 @@
 -- Counts of parts.
-use Rattle.std.proofs.Common.{◌≡◌, ℕ, ◌+◌, ◌<◌, ◌≤◌, Bool, true, false, List, [], ◌∷◌, length, refl, sym, subst, arith}
-use Rattle.std.proofs.{lemmas.Bool.ltb-true, lemmas.Bool.ltb-false, lemmas.List.length-map}
-use Rattle.std.specs.{Prelude.nat_lt, Prelude.if◌then◌else◌, Char.to_ascii_lowercase}
-use Rattle.star_query.specs.declared.counts.Part.TheVariants.{Item, Aggregate, GroupColumn, SortKey, Comparison, Operand}
-use Rattle.star_query.specs.Private.Machine.{count_of_part, bump, plus, is_over, is_long}
-use Rattle.star_query.specs.{declared.counts.Part.Part, declared.counts.Counts.Counts, Symbols.Symbol, Symbols.name, Symbols.lowered, Maxima.limit, Derives.same_part, Derives.among, Derives.IsShortName}
+use Rattle.std.{proofs.Common.{◌≡◌, ℕ, ◌+◌, ◌<◌, ◌≤◌, Bool, true, false, List, [], ◌∷◌, length, refl, sym, subst, arith}, proofs.lemmas.Bool.{ltb-true, ltb-false}, proofs.lemmas.List.length-map, specs.Prelude.{nat_lt, if◌then◌else◌}, specs.Char.to_ascii_lowercase}
+use Rattle.star_query.specs.{declared.counts.Part.TheVariants.{Item, Aggregate, GroupColumn, SortKey, Comparison, Operand}, Private.Machine.{count_of_part, bump, plus, is_over, is_long}, declared.counts.Part.Part, declared.counts.Counts.Counts, Symbols.{Symbol, name, lowered}, Maxima.limit, Derives.{same_part, among, IsShortName}}
 
 pub not_below : (a b : ℕ) → b ≤ a → nat_lt a b ≡ false
 not_below a b le = grind arith

@@ -1,18 +1,7 @@
 -- The cut of a text by the function is its tokens, up to what stops it.
-use Rattle.std.proofs.Common.{◌≡◌, ◌∙◌, ◌↔◌, refl, sym, ap, subst, ℕ, zero, suc, ◌+◌, ◌<◌, ◌≤◌, ◌⊎◌, Bool, true, false, List, [], ◌∷◌, ◌++◌, length, take, drop, arith, Option, Some, None, Result, Ok, Err, length-append, append-nil}
-use Rattle.std.proofs.lemmas.Bool.{and_parts, eqb-true, leb-true, ltb-true, or_from, or_parts}
-use Rattle.std.proofs.{Math.Seq.take-append_seam, Math.Seq.drop-append_seam, lemmas.Grind.common_steps}
-use Rattle.std.specs.Prelude.{◌≢◌, ◌==◌, ◌||◌, nat_lt, Contains, if◌then◌else◌}
-use Rattle.std.specs.{Char.is_ascii_digit, Str.Parse.digits_value, List.list_all, List.prefix_len}
-use Rattle.star_common.proofs.NumeralLemmas.{digit_bounds}
-use Rattle.star_common.specs.{Numerals.numeral_of, Quotes.quoted, Printable.is_printable, WhiteSpace.is_blank}
-use Rattle.star_query.specs.Symbols.{Symbol, Placed, relation, name, number, text, spelling, lowered}
-use Rattle.star_query.specs.Private.Cut.{Piece, blank, token, bad, put_in_front, reserved, word_of, word_piece, number_piece, piece_at, cut_from, cut_of}
-use Rattle.star_query.specs.Tokens.{is_letter, is_word_byte, begins_with_letter, is_word, signs, IsToken, a_word, a_name, a_number, a_text, a_sign, continues, is_whole, AreTokens, no_more, white_space, a_token, Stops, bad_number, open_text, bad_byte, stray, IsStopped}
-use Rattle.star_query.specs.{declared.token.Word.Word, declared.fault.QueryFault.QueryFault, declared.fault.QueryFault.TheVariants.BadNumber, Maxima.most_digits, Private.Lexed.front_piece, Private.Lexed.with_tokens}
-use Rattle.star_query.proofs.Lexing.{cut_bad, cut_blank, cut_token, number_followed, number_long}
-use Rattle.star_query.proofs.Pieces.{Found, each_sign, ends, over_text, piece_found, quoted_front, word_goes_on}
-use Rattle.star_query.proofs.{Counting.by_bool, Reserved.spelled_alone, Quotes.read_closed, Quotes.read_open, Quotes.read_stopped}
+use Rattle.std.{proofs.Common.{◌≡◌, ◌∙◌, ◌↔◌, refl, sym, ap, subst, ℕ, zero, suc, ◌+◌, ◌<◌, ◌≤◌, ◌⊎◌, Bool, true, false, List, [], ◌∷◌, ◌++◌, length, take, drop, arith, Option, Some, None, Result, Ok, Err, length-append, append-nil}, proofs.lemmas.Bool.{and_parts, eqb-true, leb-true, ltb-true, or_from, or_parts}, proofs.Math.Seq.{take-append_seam, drop-append_seam}, proofs.lemmas.Grind.common_steps, specs.Prelude.{◌≢◌, ◌==◌, ◌||◌, nat_lt, Contains, if◌then◌else◌}, specs.Char.is_ascii_digit, specs.Str.Parse.digits_value, specs.List.{list_all, prefix_len}}
+use Rattle.star_common.{proofs.NumeralLemmas.digit_bounds, specs.Numerals.numeral_of, specs.Quotes.quoted, specs.Printable.is_printable, specs.WhiteSpace.is_blank}
+use Rattle.star_query.{specs.Symbols.{Symbol, Placed, relation, name, number, text, spelling, lowered}, specs.Private.Cut.{Piece, blank, token, bad, put_in_front, reserved, word_of, word_piece, number_piece, piece_at, cut_from, cut_of}, specs.Tokens.{is_letter, is_word_byte, begins_with_letter, is_word, signs, IsToken, a_word, a_name, a_number, a_text, a_sign, continues, is_whole, AreTokens, no_more, white_space, a_token, Stops, bad_number, open_text, bad_byte, stray, IsStopped}, specs.declared.token.Word.Word, specs.declared.fault.QueryFault.QueryFault, specs.declared.fault.QueryFault.TheVariants.BadNumber, specs.Maxima.most_digits, specs.Private.Lexed.{front_piece, with_tokens}, proofs.Lexing.{cut_bad, cut_blank, cut_token, number_followed, number_long}, proofs.Pieces.{Found, each_sign, ends, over_text, piece_found, quoted_front, word_goes_on}, proofs.Counting.by_bool, proofs.Reserved.spelled_alone, proofs.Quotes.{read_closed, read_open, read_stopped}}
 use Rattle.star_query.specs.declared.token.Relation.TheVariants as r
 
 -- ---- runs of bytes
@@ -42,13 +31,13 @@ unfolding ends
 over_to x p [] same over = refl
 over_to x p (b ∷ bs) same over = rw (← same b) over
 
--- ---- what is written so begins at a place
+-- ---- what is written so begins at a position
 
-name_of : (place : ℕ) (word : List ℕ) → ((w : Word) → lowered word ≢ spelling w)
-    → word_of place word ≡ name (lowered word) place
-name_of place word none = go (reserved word) refl
+name_of : (offset : ℕ) (word : List ℕ) → ((w : Word) → lowered word ≢ spelling w)
+    → word_of offset word ≡ name (lowered word) offset
+name_of offset word none = go (reserved word) refl
   where
-    go : (o : Option Word) → reserved word ≡ o → word_of place word ≡ name (lowered word) place
+    go : (o : Option Word) → reserved word ≡ o → word_of offset word ≡ name (lowered word) offset
     go None h = rw h refl
     go (Some w) h = absurd (none w ((spelled_alone w word).0 h))
 
@@ -72,31 +61,31 @@ digit_no_letter : (b : ℕ) → is_ascii_digit b ≡ true → is_letter b ≡ fa
 digit_no_letter b digit = grind (arith, digit_bounds, by_bool, leb-true, eqb-true)
 
 -- words
-word_front : (place : ℕ) (word rest : List ℕ) → is_word word ≡ true
-    → is_whole (word_of place word) rest ≡ true
-    → front_piece place (word ++ rest) ≡ token (word_of place word) (length word)
-word_front place [] rest is over = cc
-word_front place (b ∷ bs) rest is over =
+word_front : (offset : ℕ) (word rest : List ℕ) → is_word word ≡ true
+    → is_whole (word_of offset word) rest ≡ true
+    → front_piece offset (word ++ rest) ≡ token (word_of offset word) (length word)
+word_front offset [] rest is over = cc
+word_front offset (b ∷ bs) rest is over =
     let (begins, all) = and_parts (is_letter b) (list_all is_word_byte (b ∷ bs)) is in
     let run : prefix_len is_word_byte ((b ∷ bs) ++ rest) ≡ length (b ∷ bs) =
     run_is is_word_byte (b ∷ bs) rest all
-    (over_to (word_of place (b ∷ bs)) is_word_byte rest (word_goes_on place (b ∷ bs)) over) in
-    let whole : word_piece place ((b ∷ bs) ++ rest)
-    ≡ token (word_of place (b ∷ bs)) (length (b ∷ bs)) =
-    ap (λ n. token (word_of place (take n ((b ∷ bs) ++ rest))) n) run
-    ∙ ap (λ w. token (word_of place w) (length (b ∷ bs))) (take-append_seam (b ∷ bs) rest) in
+    (over_to (word_of offset (b ∷ bs)) is_word_byte rest (word_goes_on offset (b ∷ bs)) over) in
+    let whole : word_piece offset ((b ∷ bs) ++ rest)
+    ≡ token (word_of offset (b ∷ bs)) (length (b ∷ bs)) =
+    ap (λ n. token (word_of offset (take n ((b ∷ bs) ++ rest))) n) run
+    ∙ ap (λ w. token (word_of offset w) (length (b ∷ bs))) (take-append_seam (b ∷ bs) rest) in
     if_else (is_blank b) _ _ (no_blank_by is_letter b begins refl refl refl refl)
     ∙ if_then (is_letter b) _ _ begins ∙ whole
 
 -- numbers
-digit_piece : (place b : ℕ) (bs : List ℕ) → is_ascii_digit b ≡ true
-    → front_piece place (b ∷ bs) ≡ number_piece place (b ∷ bs)
-digit_piece place b bs digit = grind (arith, no_blank_by, if_else, digit_no_letter, if_then)
+digit_piece : (offset b : ℕ) (bs : List ℕ) → is_ascii_digit b ≡ true
+    → front_piece offset (b ∷ bs) ≡ number_piece offset (b ∷ bs)
+digit_piece offset b bs digit = grind (arith, no_blank_by, if_else, digit_no_letter, if_then)
 
-pub numeral_parts : (places : ℕ) (digits : List ℕ) (n : ℕ) → numeral_of places digits ≡ Some n
-    → (1 ≤ length digits) × (length digits ≤ places) × (list_all is_ascii_digit digits ≡ true)
+pub numeral_parts : (offsets : ℕ) (digits : List ℕ) (n : ℕ) → numeral_of offsets digits ≡ Some n
+    → (1 ≤ length digits) × (length digits ≤ offsets) × (list_all is_ascii_digit digits ≡ true)
     × (digits_value 10 digits ≡ n)
-numeral_parts places digits n e = grind (arith, by_bool, and_parts, leb-true)
+numeral_parts offsets digits n e = grind (arith, by_bool, and_parts, leb-true)
 
 -- digits end where a number is over, and no letter follows
 number_over : (n : ℕ) (rest : List ℕ) → is_whole (number n) rest ≡ true
@@ -105,72 +94,69 @@ unfolding ends
 number_over n it over = grind (arith, by_bool, or_parts)
 
 abbrev number_by : ℕ → List ℕ → ℕ → Piece
-number_by place bytes width =
-    if nat_lt most_digits width || begins_with_letter (drop width bytes) then bad (BadNumber place)
+number_by offset bytes width =
+    if nat_lt most_digits width || begins_with_letter (drop width bytes) then bad (BadNumber offset)
     else token (number (digits_value 10 (take width bytes))) width
 
-number_is : (place : ℕ) (digits rest : List ℕ) (n : ℕ)
+number_is : (offset : ℕ) (digits rest : List ℕ) (n : ℕ)
     → prefix_len is_ascii_digit (digits ++ rest) ≡ length digits → length digits ≤ 18
-    → begins_with_letter rest ≡ false
-    → digits_value 10 digits ≡ n
-    → number_piece place (digits ++ rest) ≡ token (number n) (length digits)
-number_is place digits rest n run few none value =
+    → begins_with_letter rest ≡ false → digits_value 10 digits ≡ n
+    → number_piece offset (digits ++ rest) ≡ token (number n) (length digits)
+number_is offset digits rest n run few none value =
     grind (arith, common_steps, by_bool, ltb-true, if_else, or_from, drop-append_seam)
 
-number_front : (place : ℕ) (digits rest : List ℕ) (n : ℕ) → numeral_of most_digits digits ≡ Some n
+number_front : (offset : ℕ) (digits rest : List ℕ) (n : ℕ) → numeral_of most_digits digits ≡ Some n
     → is_whole (number n) rest ≡ true
-    → front_piece place (digits ++ rest) ≡ token (number n) (length digits)
-number_front place digits rest n e over = go digits (numeral_parts most_digits digits n e)
+    → front_piece offset (digits ++ rest) ≡ token (number n) (length digits)
+number_front offset digits rest n e over = go digits (numeral_parts most_digits digits n e)
   where
     go : (digits : List ℕ) → (1 ≤ length digits) × (length digits ≤ most_digits)
         × (list_all is_ascii_digit digits ≡ true) × (digits_value 10 digits ≡ n)
-        → front_piece place (digits ++ rest) ≡ token (number n) (length digits)
+        → front_piece offset (digits ++ rest) ≡ token (number n) (length digits)
     go [] (some, few, all, value) = absurd (omega (arith, some))
     go (b ∷ bs) (some, few, all, value) =
         let past = number_over n rest over in
         let run : prefix_len is_ascii_digit ((b ∷ bs) ++ rest) ≡ length (b ∷ bs) =
         run_is is_ascii_digit (b ∷ bs) rest all past.0 in
         let first = and_parts (is_ascii_digit b) (list_all is_ascii_digit bs) all in
-        digit_piece place b (bs ++ rest) first.0
-        ∙ number_is place (b ∷ bs) rest n run few past.1 value
+        digit_piece offset b (bs ++ rest) first.0
+        ∙ number_is offset (b ∷ bs) rest n run few past.1 value
 
 -- texts
-text_front : (place : ℕ) (t rest : List ℕ) → list_all is_printable t ≡ true
+text_front : (offset : ℕ) (t rest : List ℕ) → list_all is_printable t ≡ true
     → is_whole (text t) rest ≡ true
-    → front_piece place (quoted t ++ rest) ≡ token (text t) (length (quoted t))
-text_front place t rest printed over =
-    ap (front_piece place) (quoted_front t rest)
-    ∙ read_closed place t rest printed (sym (over_text t [] rest) ∙ over)
+    → front_piece offset (quoted t ++ rest) ≡ token (text t) (length (quoted t))
+text_front offset t rest printed over =
+    ap (front_piece offset) (quoted_front t rest)
+    ∙ read_closed offset t rest printed (sym (over_text t [] rest) ∙ over)
 
 -- signs
-less_front : (place : ℕ) (rest : List ℕ) → is_whole (relation r.Less) rest ≡ true
-    → front_piece place (60 ∷ rest) ≡ token (relation r.Less) 1
-less_front place it over = grind (arith, by_bool, or_parts)
+less_front : (offset : ℕ) (rest : List ℕ) → is_whole (relation r.Less) rest ≡ true
+    → front_piece offset (60 ∷ rest) ≡ token (relation r.Less) 1
+less_front offset it over = grind (arith, by_bool, or_parts)
 
-greater_front : (place : ℕ) (rest : List ℕ) → is_whole (relation r.Greater) rest ≡ true
-    → front_piece place (62 ∷ rest) ≡ token (relation r.Greater) 1
-greater_front place [] over = refl
-greater_front place (c ∷ cs) over =
+greater_front : (offset : ℕ) (rest : List ℕ) → is_whole (relation r.Greater) rest ≡ true
+    → front_piece offset (62 ∷ rest) ≡ token (relation r.Greater) 1
+greater_front offset [] over = refl
+greater_front offset (c ∷ cs) over =
     by_bool (c == 61) (λ wrong. absurd (let h = rw wrong at over in cc)) (λ none. rw none refl)
 
-sign_front : (place : ℕ) (word : List ℕ) (x : Symbol) (rest : List ℕ) → Contains signs (word, x)
-    → is_whole x rest ≡ true
-    → front_piece place (word ++ rest) ≡ token x (length word)
-sign_front place word x rest there over = grind (arith, each_sign, less_front, greater_front)
+sign_front : (offset : ℕ) (word : List ℕ) (x : Symbol) (rest : List ℕ) → Contains signs (word, x)
+    → is_whole x rest ≡ true → front_piece offset (word ++ rest) ≡ token x (length word)
+sign_front offset word x rest there over = grind (arith, each_sign, less_front, greater_front)
 
-token_front : (place : ℕ) (word rest : List ℕ) (x : Symbol) → IsToken place word x
-    → is_whole x rest ≡ true
-    → front_piece place (word ++ rest) ≡ token x (length word)
-token_front place word rest x (a_word is w e same) over =
-    let found : word_of place word ≡ x = rw ((spelled_alone w word).1 e) (sym same) in
-    word_front place word rest is (subst (λ y. is_whole y rest ≡ true) (sym found) over)
+token_front : (offset : ℕ) (word rest : List ℕ) (x : Symbol) → IsToken offset word x
+    → is_whole x rest ≡ true → front_piece offset (word ++ rest) ≡ token x (length word)
+token_front offset word rest x (a_word is w e same) over =
+    let found : word_of offset word ≡ x = rw ((spelled_alone w word).1 e) (sym same) in
+    word_front offset word rest is (subst (λ y. is_whole y rest ≡ true) (sym found) over)
     ∙ ap (λ y. token y (length word)) found
-token_front place word rest x (a_name is none same) over = grind (arith, name_of, word_front)
-token_front place word rest x (a_number n e same) over =
+token_front offset word rest x (a_name is none same) over = grind (arith, name_of, word_front)
+token_front offset word rest x (a_number n e same) over =
     let o : is_whole (number n) rest ≡ true = rw (← same) over in
-    number_front place word rest n e o ∙ ap (λ y. token y (length word)) (sym same)
-token_front place word rest x (a_text t printed cut same) over = grind (arith, text_front)
-token_front place word rest x (a_sign there) over = sign_front place word x rest there over
+    number_front offset word rest n e o ∙ ap (λ y. token y (length word)) (sym same)
+token_front offset word rest x (a_text t printed cut same) over = grind (arith, text_front)
+token_front offset word rest x (a_sign there) over = sign_front offset word x rest there over
 
 -- ---- what stops the cut
 
@@ -178,23 +164,23 @@ letter_no_digit : (rest : List ℕ) → begins_with_letter rest ≡ true → end
 unfolding ends
 letter_no_digit it e = grind (arith, by_bool, digit_no_letter)
 
-bad_number_piece : (place : ℕ) (digits rest : List ℕ) → list_all is_ascii_digit digits ≡ true
+bad_number_piece : (offset : ℕ) (digits rest : List ℕ) → list_all is_ascii_digit digits ≡ true
     → (most_digits < length digits) ⊎ (begins_with_letter rest ≡ true)
-    → number_piece place (digits ++ rest) ≡ bad (BadNumber place)
-bad_number_piece place digits rest all it =
+    → number_piece offset (digits ++ rest) ≡ bad (BadNumber offset)
+bad_number_piece offset digits rest all it =
     grind (arith, common_steps, run_within, number_long, run_is, letter_no_digit, number_followed)
 
-stop_front : (place : ℕ) (bytes : List ℕ) (fault : QueryFault) → Stops place bytes fault
-    → front_piece place bytes ≡ bad fault
-stop_front place _ _ (bad_number [] rest some all wrong) = absurd (omega (arith, some))
-stop_front place _ _ (bad_number (b ∷ bs) rest some all wrong) =
+stop_front : (offset : ℕ) (bytes : List ℕ) (fault : QueryFault) → Stops offset bytes fault
+    → front_piece offset bytes ≡ bad fault
+stop_front offset _ _ (bad_number [] rest some all wrong) = absurd (omega (arith, some))
+stop_front offset _ _ (bad_number (b ∷ bs) rest some all wrong) =
     let first = and_parts (is_ascii_digit b) (list_all is_ascii_digit bs) all in
-    digit_piece place b (bs ++ rest) first.0
-    ∙ bad_number_piece place (b ∷ bs) rest all wrong
-stop_front place _ _ (open_text said printed) = read_open place said printed
-stop_front place _ _ (bad_byte said rest b printed wrong) =
-    read_stopped place said rest b printed wrong
-stop_front place _ _ (stray b bs no_blank no_word no_quote no_sign) =
+    digit_piece offset b (bs ++ rest) first.0
+    ∙ bad_number_piece offset (b ∷ bs) rest all wrong
+stop_front offset _ _ (open_text said printed) = read_open offset said printed
+stop_front offset _ _ (bad_byte said rest b printed wrong) =
+    read_stopped offset said rest b printed wrong
+stop_front offset _ _ (stray b bs no_blank no_word no_quote no_sign) =
     let none = or_parts (is_letter b) (is_ascii_digit b) no_word in
     if_else (is_blank b) _ _ no_blank ∙ if_else (is_letter b) _ _ none.0
     ∙ if_else (is_ascii_digit b) _ _ none.1 ∙ if_else (b == 39) _ _ no_quote
@@ -217,85 +203,85 @@ stop_front place _ _ (stray b bs no_blank no_word no_quote no_sign) =
 
 -- ---- the whole cut
 
--- tokens that are cut from a place on, or what stops the cut there
-abbrev Cut : (place : ℕ) → List ℕ → Result (List Placed) QueryFault → Type 0
-Cut place bytes (Ok tokens) = AreTokens (place + length bytes) [] place bytes tokens
-Cut place bytes (Err fault) =
-    (tokens : List Placed) × (end : ℕ) × (left : List ℕ) × AreTokens end left place bytes tokens
+-- tokens that are cut from a position on, or what stops the cut there
+abbrev Cut : (offset : ℕ) → List ℕ → Result (List Placed) QueryFault → Type 0
+Cut offset bytes (Ok tokens) = AreTokens (offset + length bytes) [] offset bytes tokens
+Cut offset bytes (Err fault) =
+    (tokens : List Placed) × (end : ℕ) × (left : List ℕ) × AreTokens end left offset bytes tokens
     × Stops end left fault
 
-behind_blank : (place b : ℕ) (bs : List ℕ) (o : Result (List Placed) QueryFault) → is_blank b ≡ true
-    → Cut (place + 1) bs o → Cut place (b ∷ bs) o
-behind_blank place b bs (Ok tokens) e rest =
-    let same : place + 1 + length bs ≡ place + length (b ∷ bs) = omega arith in
-    white_space place b bs tokens e
-    (subst (λ end. AreTokens end [] (place + 1) bs tokens) same rest)
-behind_blank place b bs (Err fault) e (tokens, end, left, are, stops) =
-    (tokens, end, left, white_space place b bs tokens e are, stops)
+behind_blank : (offset b : ℕ) (bs : List ℕ) (o : Result (List Placed) QueryFault)
+    → is_blank b ≡ true → Cut (offset + 1) bs o → Cut offset (b ∷ bs) o
+behind_blank offset b bs (Ok tokens) e rest =
+    let same : offset + 1 + length bs ≡ offset + length (b ∷ bs) = omega arith in
+    white_space offset b bs tokens e
+    (subst (λ end. AreTokens end [] (offset + 1) bs tokens) same rest)
+behind_blank offset b bs (Err fault) e (tokens, end, left, are, stops) =
+    (tokens, end, left, white_space offset b bs tokens e are, stops)
 
-behind_token : (place : ℕ) (word bytes : List ℕ) (x : Symbol) (o : Result (List Placed) QueryFault)
-    → IsToken place word x → is_whole x bytes ≡ true
-    → Cut (place + length word) bytes o
-    → Cut place (word ++ bytes) (put_in_front (record { symbol = x; place = place }) o)
-behind_token place word bytes x (Ok tokens) is over rest =
-    let same : place + length word + length bytes ≡ place + length (word ++ bytes) =
+behind_token : (offset : ℕ) (word bytes : List ℕ) (x : Symbol) (o : Result (List Placed) QueryFault)
+    → IsToken offset word x → is_whole x bytes ≡ true
+    → Cut (offset + length word) bytes o
+    → Cut offset (word ++ bytes) (put_in_front (record { symbol = x; offset = offset }) o)
+behind_token offset word bytes x (Ok tokens) is over rest =
+    let same : offset + length word + length bytes ≡ offset + length (word ++ bytes) =
     omega (arith, length-append word bytes) in
-    a_token place word bytes x tokens is over
-    (subst (λ end. AreTokens end [] (place + length word) bytes tokens) same rest)
-behind_token place word bytes x (Err fault) is over (tokens, end, left, are, stops) = (
-  record { symbol = x; place = place } ∷ tokens,
+    a_token offset word bytes x tokens is over
+    (subst (λ end. AreTokens end [] (offset + length word) bytes tokens) same rest)
+behind_token offset word bytes x (Err fault) is over (tokens, end, left, are, stops) = (
+  record { symbol = x; offset = offset } ∷ tokens,
   end,
   left,
-  a_token place word bytes x tokens is over are,
+  a_token offset word bytes x tokens is over are,
   stops,
 )
 
-token_some : (place : ℕ) (word : List ℕ) (x : Symbol) → IsToken place word x → 1 ≤ length word
+token_some : (offset : ℕ) (word : List ℕ) (x : Symbol) → IsToken offset word x → 1 ≤ length word
 unfolding quoted
-token_some place word x it = grind (arith, numeral_parts, length-append, each_sign)
+token_some offset word x it = grind (arith, numeral_parts, length-append, each_sign)
 
 -- a token, and then the rest
-cut_word : (place : ℕ) (word rest : List ℕ) (x : Symbol) → IsToken place word x
-    → front_piece place (word ++ rest) ≡ token x (length word)
-    → cut_from place 0 (word ++ rest)
-    ≡ put_in_front (record { symbol = x; place = place }) (cut_from (place + length word) 0 rest)
-cut_word place word rest x is front =
-    cut_token place (word ++ rest) x (length word) front (token_some place word x is)
-    ∙ ap (λ all. put_in_front (record { symbol = x; place = place })
-    (cut_from (place + length word) 0 all)) (drop-append_seam word rest)
+cut_word : (offset : ℕ) (word rest : List ℕ) (x : Symbol) → IsToken offset word x
+    → front_piece offset (word ++ rest) ≡ token x (length word)
+    → cut_from offset 0 (word ++ rest)
+    ≡ put_in_front (record { symbol = x; offset = offset }) (cut_from (offset + length word) 0 rest)
+cut_word offset word rest x is front =
+    cut_token offset (word ++ rest) x (length word) front (token_some offset word x is)
+    ∙ ap (λ all. put_in_front (record { symbol = x; offset = offset })
+    (cut_from (offset + length word) 0 all)) (drop-append_seam word rest)
 
 -- of at most `n` bytes
-cut_so : (n place : ℕ) (bytes : List ℕ) → length bytes ≤ n
-    → Cut place bytes (cut_from place 0 bytes)
+cut_so : (n offset : ℕ) (bytes : List ℕ) → length bytes ≤ n
+    → Cut offset bytes (cut_from offset 0 bytes)
 unfolding cut_from
-cut_so n place [] few = let same : place ≡ place + 0 = omega arith in
-    subst (λ end. AreTokens end [] place [] []) same
-    (let h : AreTokens place [] place [] [] = no_more in h)
-cut_so zero place (b ∷ bs) few = absurd (omega arith)
-cut_so (suc n) place (b ∷ bs) few =
-    go (λ place bytes few. cut_so n place bytes few) (piece_at place b bs) refl
-    (piece_found place b bs)
+cut_so n offset [] few = let same : offset ≡ offset + 0 = omega arith in
+    subst (λ end. AreTokens end [] offset [] []) same
+    (let h : AreTokens offset [] offset [] [] = no_more in h)
+cut_so zero offset (b ∷ bs) few = absurd (omega arith)
+cut_so (suc n) offset (b ∷ bs) few =
+    go (λ offset bytes few. cut_so n offset bytes few) (piece_at offset b bs) refl
+    (piece_found offset b bs)
   where
-    go : ((place : ℕ) (bytes : List ℕ) → length bytes ≤ n
-        → Cut place bytes (cut_from place 0 bytes)) → (p : Piece) → piece_at place b bs ≡ p
-        → Found place (b ∷ bs) p → Cut place (b ∷ bs) (cut_from place 0 (b ∷ bs))
+    go : ((offset : ℕ) (bytes : List ℕ) → length bytes ≤ n
+        → Cut offset bytes (cut_from offset 0 bytes)) → (p : Piece) → piece_at offset b bs ≡ p
+        → Found offset (b ∷ bs) p → Cut offset (b ∷ bs) (cut_from offset 0 (b ∷ bs))
     go more blank e (c, cs, same, is) =
         let first : b ≡ c = cc in
-        subst (Cut place (b ∷ bs)) (sym (cut_blank place (b ∷ bs) e))
-        (behind_blank place b bs (cut_from (place + 1) 0 bs) (rw first is)
-        (more (place + 1) bs (omega arith)))
+        subst (Cut offset (b ∷ bs)) (sym (cut_blank offset (b ∷ bs) e))
+        (behind_blank offset b bs (cut_from (offset + 1) 0 bs) (rw first is)
+        (more (offset + 1) bs (omega arith)))
     go more (token x width) e (word, rest, cut, many, is, over) =
-        let front : front_piece place (word ++ rest) ≡ token x (length word) =
-        ap (front_piece place) (sym cut) ∙ e ∙ ap (token x) (sym many) in
+        let front : front_piece offset (word ++ rest) ≡ token x (length word) =
+        ap (front_piece offset) (sym cut) ∙ e ∙ ap (token x) (sym many) in
         let fewer : length rest ≤ n =
-        omega (arith, token_some place word x is, ap length cut, length-append word rest) in
-        subst (λ all. Cut place all (cut_from place 0 all)) (sym cut)
-        (subst (Cut place (word ++ rest)) (sym (cut_word place word rest x is front))
-        (behind_token place word rest x (cut_from (place + length word) 0 rest) is over
-        (more (place + length word) rest fewer)))
+        omega (arith, token_some offset word x is, ap length cut, length-append word rest) in
+        subst (λ all. Cut offset all (cut_from offset 0 all)) (sym cut)
+        (subst (Cut offset (word ++ rest)) (sym (cut_word offset word rest x is front))
+        (behind_token offset word rest x (cut_from (offset + length word) 0 rest) is over
+        (more (offset + length word) rest fewer)))
     go more (bad f) e stops =
-        subst (Cut place (b ∷ bs)) (sym (cut_bad place (b ∷ bs) f e))
-        ([], place, b ∷ bs, no_more, stops)
+        subst (Cut offset (b ∷ bs)) (sym (cut_bad offset (b ∷ bs) f e))
+        ([], offset, b ∷ bs, no_more, stops)
 
 no_tokens : (o : Result (List Placed) QueryFault) → o ≡ with_tokens [] o
 no_tokens (Ok ts) = refl
@@ -307,17 +293,17 @@ one_token t ts (Ok us) = refl
 one_token t ts (Err e) = refl
 
 -- the tokens that the bytes have are those that are cut
-tokens_cut : (end : ℕ) (left : List ℕ) (place : ℕ) (bytes : List ℕ) (tokens : List Placed)
-    → AreTokens end left place bytes tokens
-    → cut_from place 0 bytes ≡ with_tokens tokens (cut_from end 0 left)
+tokens_cut : (end : ℕ) (left : List ℕ) (offset : ℕ) (bytes : List ℕ) (tokens : List Placed)
+    → AreTokens end left offset bytes tokens
+    → cut_from offset 0 bytes ≡ with_tokens tokens (cut_from end 0 left)
 tokens_cut end left _ _ _ no_more = no_tokens (cut_from end 0 left)
-tokens_cut end left _ _ _ (white_space place b bytes tokens e rest) =
-    cut_blank place (b ∷ bytes) (if_then (is_blank b) _ _ e)
-    ∙ tokens_cut end left (place + 1) bytes tokens rest
-tokens_cut end left _ _ _ (a_token place word bytes x tokens is over rest) =
-    let first : Placed = record { symbol = x; place = place } in
-    cut_word place word bytes x is (token_front place word bytes x is over)
-    ∙ ap (put_in_front first) (tokens_cut end left (place + length word) bytes tokens rest)
+tokens_cut end left _ _ _ (white_space offset b bytes tokens e rest) =
+    cut_blank offset (b ∷ bytes) (if_then (is_blank b) _ _ e)
+    ∙ tokens_cut end left (offset + 1) bytes tokens rest
+tokens_cut end left _ _ _ (a_token offset word bytes x tokens is over rest) =
+    let first : Placed = record { symbol = x; offset = offset } in
+    cut_word offset word bytes x is (token_front offset word bytes x is over)
+    ∙ ap (put_in_front first) (tokens_cut end left (offset + length word) bytes tokens rest)
     ∙ one_token first tokens (cut_from end 0 left)
 
 -- ---- the laws

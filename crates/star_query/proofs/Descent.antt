@@ -1,17 +1,11 @@
 -- The parser's functions go with the machine.
-use Rattle.std.proofs.Common.{◌≡◌, ◌∙◌, ℕ, pos, ◌+◌, ◌<◌, ◌≤◌, Bool, true, false, List, [], ◌∷◌, Some, None, Result, Ok, Err, refl, sym, ap, subst, arith}
-use Rattle.std.specs.{Prelude.nat_lt, Prelude.neg_ℤ, Result.IsErrAnd}
+use Rattle.std.{proofs.Common.{◌≡◌, ◌∙◌, ℕ, pos, ◌+◌, ◌<◌, ◌≤◌, Bool, true, false, List, [], ◌∷◌, Some, None, Result, Ok, Err, refl, sym, ap, subst, arith}, specs.Prelude.{nat_lt, neg_ℤ}, specs.Result.IsErrAnd}
 use Rattle.star_query.specs.declared.token.Sign.TheVariants as s
-use Rattle.star_query.specs.declared.{token.Digits.Digits, token.Additive.Additive, token.Additive.TheVariants.Minus, counts.Part.Part, fault.Fault.Fault, fault.Fault.TheVariants.Unexpected, fault.Fault.TheVariants.TooDeep, fault.Fault.TheVariants.TooMany, fault.ParseError.ParseError, tree.Name.Name, tree.Expression.Expression}
+use Rattle.star_query.{specs.declared.token.Digits.Digits, specs.declared.token.Additive.Additive, specs.declared.token.Additive.TheVariants.Minus, specs.declared.counts.Part.Part, specs.declared.fault.Fault.Fault, specs.declared.fault.Fault.TheVariants.{Unexpected, TooDeep, TooMany}, specs.declared.fault.ParseError.ParseError, specs.declared.tree.Name.Name, specs.declared.tree.Expression.Expression, specs.Symbols.{Symbol, sign, additive, name, number}, specs.Views.{name_view, expression_view}, specs.Private.Lists.bad_along, specs.Private.Phrases.{Expr, plus_or_minus, Term, times, column, constant, negative, parens, first, ident, sum_or_difference, expr_tree, term_tree, factor_tree}, specs.Private.Machine.{ExprHole, in_parens, TermHole, first_term, next_term, FactorHole, first_factor, next_factor, expr_depth, term_depth, factor_depth, ParserState, factor_wanted, factor_negative, term_had, expr_had, give_factor, to, next_step, query_at_end, Verdict, Bad, checked, verdict_after, ends, run}, specs.Private.Reads.{Spot, head_of, No, verdict, EndsBad, Takes, NoName, NoNumber, IsName, IsNumber, IsBeyond, ReadsToken, ReadsName, ReadsNumber, Nests, ReadsPhrase, ReadsOperand, ReadsFactor, ReadsTerm, ReadsExpr}, proofs.Counting.not_below, proofs.Accepting.{expr_joins, parens_close}, proofs.Tokens.no_name_there}
 use Rattle.star_query.specs.declared.counts.Part.TheVariants as part
 use Rattle.star_query.specs.declared.fault.ParseError.TheVariants as errors
 use Rattle.star_query.specs.declared.tree.Expression.TheVariants as expressions
-use Rattle.star_query.specs.{Symbols.Symbol, Symbols.sign, Symbols.additive, Symbols.name, Symbols.number, Views.name_view, Views.expression_view, Private.Lists.bad_along}
 use Rattle.star_query.specs.Tree as tree
-use Rattle.star_query.specs.Private.Phrases.{Expr, plus_or_minus, Term, times, column, constant, negative, parens, first, ident, sum_or_difference, expr_tree, term_tree, factor_tree}
-use Rattle.star_query.specs.Private.Machine.{ExprHole, in_parens, TermHole, first_term, next_term, FactorHole, first_factor, next_factor, expr_depth, term_depth, factor_depth, ParserState, factor_wanted, factor_negative, term_had, expr_had, give_factor, to, next_step, query_at_end, Verdict, Bad, checked, verdict_after, ends, run}
-use Rattle.star_query.specs.Private.Reads.{Spot, head_of, No, verdict, EndsBad, Takes, NoName, NoNumber, IsName, IsNumber, IsBeyond, ReadsToken, ReadsName, ReadsNumber, Nests, ReadsPhrase, ReadsOperand, ReadsFactor, ReadsTerm, ReadsExpr}
-use Rattle.star_query.proofs.{Counting.not_below, Accepting.expr_joins, Accepting.parens_close, Tokens.no_name_there}
 
 -- past a symbol, within the limits
 pub takes : (old new : Spot) (x : Symbol) (ps : List Part) (d : ℕ) (from next : ParserState)

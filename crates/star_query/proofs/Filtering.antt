@@ -1,23 +1,16 @@
 -- The parser's functions on conditions go with the machine.
-use Rattle.std.proofs.Common.{◌≡◌, ◌∙◌, ℕ, pos, ◌+◌, ◌<◌, ◌≤◌, [], ◌∷◌, None, Result, Ok, Err, refl, sym, ap, arith}
-use Rattle.std.specs.{Prelude.neg_ℤ, declared.alloc.Global.Global, declared.vec.Vec.Vec}
+use Rattle.std.{proofs.Common.{◌≡◌, ◌∙◌, ℕ, pos, ◌+◌, ◌<◌, ◌≤◌, [], ◌∷◌, None, Result, Ok, Err, refl, sym, ap, arith}, specs.Prelude.neg_ℤ, specs.declared.alloc.Global.Global, specs.declared.vec.Vec.Vec}
 use Rattle.star_query.specs.declared.token.Keyword.TheVariants as k
 use Rattle.star_query.specs.declared.token.Sign.TheVariants as s
-use Rattle.star_query.specs.declared.{token.Additive.TheVariants.Minus, token.Relation.Relation, fault.ParseError.ParseError, tree.Name.Name, tree.Literal.Literal, tree.Test.Test, tree.Condition.Condition}
+use Rattle.star_query.{specs.declared.token.Additive.TheVariants.Minus, specs.declared.token.Relation.Relation, specs.declared.fault.ParseError.ParseError, specs.declared.tree.Name.Name, specs.declared.tree.Literal.Literal, specs.declared.tree.Test.Test, specs.declared.tree.Condition.Condition, specs.Symbols.{Symbol, keyword, relation, sign, additive, name, number, text}, specs.Private.Phrases.{unsigned_literal, negative_literal, string_literal, Cond, or_conj, Conj, and_unit, Unary, not_unit, group, pair, compare, between, ident, lit_tree, cond_tree, conj_tree, unit_tree}, specs.Private.Machine.{compared, low, high, UnitHole, first_unit, next_unit, under_not, ConjHole, first_conj, next_conj, CondHole, in_group, lit_depth, unit_depth, conj_depth, cond_depth, lit_wanted, lit_negative, low_had, unit_wanted, unit_named, equal_had, conj_had, cond_had, give_lit, give_unit, behind_relation, next_step, Verdict}, specs.Views.{name_view, literal_view, condition_view}, specs.Private.Reads.{Spot, No, verdict, Takes, NoName, ReadsName, ReadsLit, ReadsNamed, ReadsUnit, ReadsConj, ReadsCond}, proofs.Accepting.{cond_joins, group_closes}, proofs.Descent.{takes, stuck, bad_name, along, same_from, head_no_name}}
 use Rattle.star_query.specs.declared.token.Relation.TheVariants as r
 use Rattle.star_query.specs.declared.counts.Part.TheVariants as part
 use Rattle.star_query.specs.declared.tree.Literal.TheVariants as literals
 use Rattle.star_query.specs.declared.tree.Comparison.TheVariants as comparisons
 use Rattle.star_query.specs.declared.tree.Test.TheVariants as tests
 use Rattle.star_query.specs.declared.tree.Condition.TheVariants as conditions
-use Rattle.star_query.specs.Symbols.{Symbol, keyword, relation, sign, additive, name, number, text}
 use Rattle.star_schema.specs.Tables.{Value, Number}
 use Rattle.star_query.specs.Tree as tree
-use Rattle.star_query.specs.Private.Phrases.{unsigned_literal, negative_literal, string_literal, Cond, or_conj, Conj, and_unit, Unary, not_unit, group, pair, compare, between, ident, lit_tree, cond_tree, conj_tree, unit_tree}
-use Rattle.star_query.specs.Private.Machine.{compared, low, high, UnitHole, first_unit, next_unit, under_not, ConjHole, first_conj, next_conj, CondHole, in_group, lit_depth, unit_depth, conj_depth, cond_depth, lit_wanted, lit_negative, low_had, unit_wanted, unit_named, equal_had, conj_had, cond_had, give_lit, give_unit, behind_relation, next_step, Verdict}
-use Rattle.star_query.specs.{Views.name_view, Views.literal_view, Views.condition_view}
-use Rattle.star_query.specs.Private.Reads.{Spot, No, verdict, Takes, NoName, ReadsName, ReadsLit, ReadsNamed, ReadsUnit, ReadsConj, ReadsCond}
-use Rattle.star_query.proofs.{Accepting.cond_joins, Accepting.group_closes, Descent.takes, Descent.stuck, Descent.bad_name, Descent.along, Descent.same_from, Descent.head_no_name}
 
 -- literals
 pub read_negated : (old mid new : Spot) (x : Literal) (n : ℕ)

@@ -1,21 +1,17 @@
 -- A query begins with what was read on the way to any state, and is what was read where it ends.
-use Rattle.std.proofs.Common.{◌≡◌, ◌∙◌, ◌+◌, true, false, List, [], ◌∷◌, Option, Some, None, refl, ap, arith}
+use Rattle.std.proofs.{Common.{◌≡◌, ◌∙◌, ◌+◌, true, false, List, [], ◌∷◌, Option, Some, None, refl, ap, arith}, lemmas.Grind.common_steps}
 use Rattle.star_query.specs.declared.token.Keyword.TheVariants as k
 use Rattle.star_query.specs.declared.token.Sign.TheVariants as s
 use Rattle.star_query.specs.declared.token.Relation.TheVariants as r
 use Rattle.star_query.specs.declared.counts.Part.TheVariants as part
-use Rattle.star_query.specs.{Symbols.keyword, Symbols.relation, Symbols.sign, Symbols.number, Tree.Name, Grammar.Mark}
-use Rattle.star_query.specs.Private.Phrases.{Several, one, Expr, lone_term, plus_or_minus, Term, lone_factor, times, Factor, constant, negative, parens, Lit, unsigned_literal, negative_literal, Cond, lone_conj, or_conj, Conj, lone_unit, and_unit, Unary, not_unit, group, pair, compare, between, folded, counted, Item, plain, aggregate, Key, unmarked, ungrouped, grouped, hiding, Query, at, first, ident, expr_marks, term_marks, factor_marks, lit_marks, cond_marks, conj_marks, unit_marks, item_marks, table_marks, column_marks, key_marks, several_marks, keys_marks, query_marks, Hiding}
-use Rattle.star_query.specs.Private.Machine.{extended, ExprHole, in_fold, in_parens, TermHole, first_term, next_term, FactorHole, first_factor, next_factor, CondHole, in_where, in_group, ConjHole, first_conj, next_conj, UnitHole, first_unit, next_unit, under_not, LitHole, compared, low, high, Filtered, Grouped, filtered_by, grouped_by, query_of, expr_depth, term_depth, factor_depth, cond_depth, conj_depth, unit_depth, lit_depth, ParserState, begin, item_wanted, fold_named, count_named, count_opened, count_starred, factor_wanted, factor_negative, term_had, agg_had, alias_wanted, items_had, table_wanted, tables_had, unit_wanted, unit_named, equal_had, lit_wanted, lit_negative, low_had, conj_had, filtered_had, group_had, by_had, hiding_had, column_wanted, columns_had, grouped_had, order_had, key_wanted, key_named, keys_had, done, ended, cond_end, query_at_end}
-use Rattle.star_query.proofs.Passed.{before_marks, select_passed, items_passed, by_passed, hiding_passed, grouped_passed, order_passed, expr_passed, term_passed, factor_passed, cond_passed, conj_passed, unit_passed, between_passed, lit_passed, passed, several-extended, joined_cond_passed}
-use Rattle.std.proofs.lemmas.Grind.{common_steps}
+use Rattle.star_query.{specs.Symbols.{keyword, relation, sign, number}, specs.Tree.Name, specs.Grammar.Mark, specs.Private.Phrases.{Several, one, Expr, lone_term, plus_or_minus, Term, lone_factor, times, Factor, constant, negative, parens, Lit, unsigned_literal, negative_literal, Cond, lone_conj, or_conj, Conj, lone_unit, and_unit, Unary, not_unit, group, pair, compare, between, folded, counted, Item, plain, aggregate, Key, unmarked, ungrouped, grouped, hiding, Query, at, first, ident, expr_marks, term_marks, factor_marks, lit_marks, cond_marks, conj_marks, unit_marks, item_marks, table_marks, column_marks, key_marks, several_marks, keys_marks, query_marks, Hiding}, specs.Private.Machine.{extended, ExprHole, in_fold, in_parens, TermHole, first_term, next_term, FactorHole, first_factor, next_factor, CondHole, in_where, in_group, ConjHole, first_conj, next_conj, UnitHole, first_unit, next_unit, under_not, LitHole, compared, low, high, Filtered, Grouped, filtered_by, grouped_by, query_of, expr_depth, term_depth, factor_depth, cond_depth, conj_depth, unit_depth, lit_depth, ParserState, begin, item_wanted, fold_named, count_named, count_opened, count_starred, factor_wanted, factor_negative, term_had, agg_had, alias_wanted, items_had, table_wanted, tables_had, unit_wanted, unit_named, equal_had, lit_wanted, lit_negative, low_had, conj_had, filtered_had, group_had, by_had, hiding_had, column_wanted, columns_had, grouped_had, order_had, key_wanted, key_named, keys_had, done, ended, cond_end, query_at_end}, proofs.Passed.{before_marks, select_passed, items_passed, by_passed, hiding_passed, grouped_passed, order_passed, expr_passed, term_passed, factor_passed, cond_passed, conj_passed, unit_passed, between_passed, lit_passed, passed, several-extended, joined_cond_passed}}
 
 -- some query is written so, with more behind
 abbrev pub Finishes : (List Mark → List Mark) → Type 0
 Finishes front = (q : Query) × (more : List Mark) × (query_marks q ≡ front more)
 
 someone : Name
-someone = record { text = []; place = 0 }
+someone = record { text = []; offset = 0 }
 
 -- a query with these clauses
 abbrev with_filter : Several Item → Several Name → Option Cond → Query

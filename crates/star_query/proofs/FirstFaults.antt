@@ -1,11 +1,7 @@
 -- A text that means a tree has no fault.
-use Rattle.std.proofs.Common.{◌≡◌, ◌≢◌, ◌∙◌, ℕ, ◌<◌, ◌≤◌, ◌⊎◌, inl, inr, List, [], ◌∷◌, ◌++◌, refl, sym, ap, subst, arith, append_assoc, append-nil}
-use Rattle.std.specs.List.{AllByRecursion}
-use Rattle.star_query.specs.declared.{counts.Part.Part, fault.Fault.Fault, fault.Fault.TheVariants.Unexpected, fault.Fault.TheVariants.TooDeep, fault.Fault.TheVariants.TooMany, fault.QueryFault.QueryFault}
+use Rattle.std.{proofs.Common.{◌≡◌, ◌≢◌, ◌∙◌, ℕ, ◌<◌, ◌≤◌, ◌⊎◌, inl, inr, List, [], ◌∷◌, ◌++◌, refl, sym, ap, subst, arith, append_assoc, append-nil}, specs.List.AllByRecursion}
+use Rattle.star_query.{specs.declared.counts.Part.Part, specs.declared.fault.Fault.Fault, specs.declared.fault.Fault.TheVariants.{Unexpected, TooDeep, TooMany}, specs.declared.fault.QueryFault.QueryFault, specs.Symbols.{Symbol, Placed, symbols}, specs.Tokens.IsStopped, specs.Tree.Tree, specs.Grammar.{Mark, IsQuery}, specs.Maxima.limit, specs.Derives.{count_begun, IsShortName, Derives, symbols_at, BeginsQuery, QueryFails, unexpected, too_deep, too_many, StopsAt, IsFirstQueryFault, Means}, proofs.Cuts.{one_cut, tokens_make_text, stop_cuts}, proofs.Verdicts.{count_of-append, one_front}}
 use Rattle.star_query.specs.declared.fault.QueryFault.TheVariants as faults
-use Rattle.star_query.specs.{Symbols.Symbol, Symbols.Placed, Symbols.symbols, Tokens.IsStopped, Tree.Tree, Grammar.Mark, Grammar.IsQuery, Maxima.limit}
-use Rattle.star_query.specs.Derives.{count_begun, IsShortName, Derives, symbols_at, BeginsQuery, QueryFails, unexpected, too_deep, too_many, StopsAt, IsFirstQueryFault, Means}
-use Rattle.star_query.proofs.{Cuts.one_cut, Cuts.tokens_make_text, Cuts.stop_cuts, Verdicts.count_of-append, Verdicts.one_front}
 
 -- ---- the marks of a query, where a token breaks a limit
 
@@ -90,9 +86,10 @@ pub no_fault : (bytes : List ℕ) (tree : Tree) (fault : QueryFault) → fault �
     → Means bytes tree → IsFirstQueryFault bytes fault → ⊥
 no_fault bytes tree faults.OutOfMemory other m h = other refl
 no_fault bytes tree faults.TooLong other m h = omega (arith, m.short, h)
-no_fault bytes tree (faults.Unexpected place) other m h = never_left bytes tree Unexpected h.0 m h.1
+no_fault bytes tree (faults.Unexpected offset) other m h =
+    never_left bytes tree Unexpected h.0 m h.1
 no_fault bytes tree faults.TooDeep other m h = never_left bytes tree TooDeep h.0 m h.1
 no_fault bytes tree faults.TooMany other m h = never_left bytes tree TooMany h.0 m h.1
-no_fault bytes tree (faults.BadCharacter place) other m h = never_cut bytes tree _ m h.1
-no_fault bytes tree (faults.BadNumber place) other m h = never_cut bytes tree _ m h.1
-no_fault bytes tree (faults.OpenText place) other m h = never_cut bytes tree _ m h.1
+no_fault bytes tree (faults.BadCharacter offset) other m h = never_cut bytes tree _ m h.1
+no_fault bytes tree (faults.BadNumber offset) other m h = never_cut bytes tree _ m h.1
+no_fault bytes tree (faults.OpenText offset) other m h = never_cut bytes tree _ m h.1

@@ -10,7 +10,7 @@ pub mod Tokens
 pub mod Descent
 pub mod Filtering
 pub mod Queries
-pub mod Places
+pub mod Offsets
 pub mod Parsing
 pub mod Within
 pub mod Spelling

@@ -1,7 +1,6 @@
 -- What some text means is within the limits, and spelled as the grammar wants.
 use Rattle.std.proofs.{Math.Logic.∥∥₁_elim, Props.props}
-use Rattle.star_query.specs.{Limits.IsQueryWithinLimits, Meant.IsMeant, Spelled.IsSpelledQuery, Tree.Tree}
-use Rattle.star_query.proofs.{Spelled.meant_spelled, Within.derived_within}
+use Rattle.star_query.{specs.Limits.IsQueryWithinLimits, specs.Meant.IsMeant, specs.Spelled.IsSpelledQuery, specs.Tree.Tree, proofs.Spelled.meant_spelled, proofs.Within.derived_within}
 
 limits_prop : (t : Tree) → IsProp (IsQueryWithinLimits t)
 limits_prop t = hlevel props

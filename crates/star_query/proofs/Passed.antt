@@ -2,12 +2,9 @@
 use Rattle.std.proofs.Common.{◌≡◌, ◌∙◌, ◌+◌, List, [], ◌∷◌, Option, Some, None, refl, ap, subst, arith}
 use Rattle.star_query.specs.declared.token.Keyword.TheVariants as k
 use Rattle.star_query.specs.declared.token.Sign.TheVariants as s
-use Rattle.star_query.specs.{declared.token.Additive.TheVariants.Minus, declared.token.Relation.Relation, Tree.Name, Grammar.Mark}
+use Rattle.star_query.specs.{declared.token.Additive.TheVariants.Minus, declared.token.Relation.Relation, Tree.Name, Grammar.Mark, Symbols.{Symbol, keyword, fold, count, relation, sign, additive, name, number}, Private.Phrases.{Several, Expr, Term, Factor, Lit, Cond, Conj, Unary, not_unit, compare, between, Item, Key, ascending, descending, grouped, at, first, ident, function, expr_marks, term_marks, factor_marks, lit_marks, cond_marks, conj_marks, unit_marks, agg_marks, item_marks, table_marks, column_marks, key_marks, several_marks, where_marks, groups_marks, keys_marks, Hiding, hiding_word}, Private.Machine.{extended, ExprHole, in_fold, in_parens, TermHole, first_term, next_term, FactorHole, first_factor, next_factor, CondHole, in_where, in_group, ConjHole, first_conj, next_conj, UnitHole, first_unit, next_unit, under_not, LitHole, compared, low, high, Filtered, Grouped, filtered_by, grouped_by, expr_depth, term_depth, factor_depth, cond_depth, conj_depth, unit_depth, lit_depth, ParserState, begin, item_wanted, fold_named, count_named, count_opened, count_starred, factor_wanted, factor_negative, term_had, agg_had, alias_wanted, items_had, table_wanted, tables_had, unit_wanted, unit_named, equal_had, lit_wanted, lit_negative, low_had, conj_had, filtered_had, group_had, by_had, hiding_had, column_wanted, columns_had, grouped_had, order_had, key_wanted, key_named, keys_had, done, ended, Step, give_factor, joined_expr, around_term, give_unit, joined_cond, around_conj, give_lit, behind_relation, closed_expr, on_items, on_done, on_grouped, on_filtered, on_lit, closed_cond, on_cond, on_column, on_keys, next_step}}
 use Rattle.star_query.specs.declared.token.Relation.TheVariants as r
 use Rattle.star_query.specs.declared.counts.Part.TheVariants as part
-use Rattle.star_query.specs.Symbols.{Symbol, keyword, fold, count, relation, sign, additive, name, number}
-use Rattle.star_query.specs.Private.Phrases.{Several, Expr, Term, Factor, Lit, Cond, Conj, Unary, not_unit, compare, between, Item, Key, ascending, descending, grouped, at, first, ident, function, expr_marks, term_marks, factor_marks, lit_marks, cond_marks, conj_marks, unit_marks, agg_marks, item_marks, table_marks, column_marks, key_marks, several_marks, where_marks, groups_marks, keys_marks, Hiding, hiding_word}
-use Rattle.star_query.specs.Private.Machine.{extended, ExprHole, in_fold, in_parens, TermHole, first_term, next_term, FactorHole, first_factor, next_factor, CondHole, in_where, in_group, ConjHole, first_conj, next_conj, UnitHole, first_unit, next_unit, under_not, LitHole, compared, low, high, Filtered, Grouped, filtered_by, grouped_by, expr_depth, term_depth, factor_depth, cond_depth, conj_depth, unit_depth, lit_depth, ParserState, begin, item_wanted, fold_named, count_named, count_opened, count_starred, factor_wanted, factor_negative, term_had, agg_had, alias_wanted, items_had, table_wanted, tables_had, unit_wanted, unit_named, equal_had, lit_wanted, lit_negative, low_had, conj_had, filtered_had, group_had, by_had, hiding_had, column_wanted, columns_had, grouped_had, order_had, key_wanted, key_named, keys_had, done, ended, Step, give_factor, joined_expr, around_term, give_unit, joined_cond, around_conj, give_lit, behind_relation, closed_expr, on_items, on_done, on_grouped, on_filtered, on_lit, closed_cond, on_cond, on_column, on_keys, next_step}
 
 abbrev pub before_marks : {A : Type 0} → (A → List Mark → List Mark) → Option (Several A)
     → List Mark → List Mark
@@ -325,7 +322,8 @@ all_moves (columns_had f (Some h) is) (sign s.Close) = moves _ _ _ _ refl (λ re
 all_moves (columns_had f (Some h) is) _ = tt
 all_moves (columns_had f None is) x =
     moves_along (columns_had f None is) (grouped_had (grouped_by f (grouped is))) x
-    (next_step (columns_had f None is) x) (λ rest. refl) (grouped_moves (grouped_by f (grouped is)) x)
+    (next_step (columns_had f None is) x) (λ rest. refl)
+    (grouped_moves (grouped_by f (grouped is)) x)
 all_moves (grouped_had g) x = grouped_moves g x
 all_moves (order_had g) (keyword k.By) = moves _ _ _ _ refl (λ rest. refl)
 all_moves (order_had g) _ = tt

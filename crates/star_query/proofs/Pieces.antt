@@ -1,35 +1,28 @@
--- What the lexer finds at a place is white space, a token as it is written, or what stops the cut.
-use Rattle.std.proofs.Common.{◌≡◌, ◌∙◌, refl, sym, ap, subst, ℕ, zero, suc, ◌+◌, ◌<◌, ◌≤◌, inl, inr, Bool, true, false, List, [], ◌∷◌, ◌++◌, length, take, drop, arith, Option, Some, None, append_assoc}
+-- What the lexer finds at a position is white space, a token as it is written, or what stops the
+-- cut.
+use Rattle.std.{proofs.Common.{◌≡◌, ◌∙◌, refl, sym, ap, subst, ℕ, zero, suc, ◌+◌, ◌<◌, ◌≤◌, inl, inr, Bool, true, false, List, [], ◌∷◌, ◌++◌, length, take, drop, arith, Option, Some, None, append_assoc}, specs.List.{AllByRecursion, flat_map, prefix_len, slice_get}, specs.Char.is_ascii_digit, specs.Str.Parse.digits_value, proofs.lemmas.Bool.{and_from, eq-eqb, eqb-true, ltb-true, ltb-false, or_from, or_left, or_parts}, proofs.lemmas.List.take-append-drop, proofs.lemmas.List.Folds.length-prefix_len}
 use Rattle.std.specs.Prelude.{codes, ◌==◌, ◌||◌, not as negated, nat_lt, Contains, if◌then◌else◌, slice_index_or}
-use Rattle.std.specs.{List.AllByRecursion, List.flat_map, List.prefix_len, List.slice_get, Char.is_ascii_digit, Str.Parse.digits_value}
-use Rattle.std.proofs.lemmas.Bool.{and_from, eq-eqb, eqb-true, ltb-true, ltb-false, or_from, or_left, or_parts}
-use Rattle.std.proofs.lemmas.List.{take-append-drop, Folds.length-prefix_len}
 use Rattle.star_common.specs.{Quotes.doubled, Quotes.quoted, WhiteSpace.is_blank}
-use Rattle.star_query.specs.declared.{token.Word.Word, fault.QueryFault.TheVariants.BadNumber}
+use Rattle.star_query.{specs.declared.token.Word.Word, specs.declared.fault.QueryFault.TheVariants.BadNumber, specs.Symbols.{Symbol, relation, sign, additive, number, text}, specs.Private.Cut.{Piece, blank, token, bad, reserved, word_of, word_piece, number_piece, text_piece, sign_piece, piece_at}, specs.Tokens.{is_letter, is_word_byte, begins_with_letter, is_word, signs, IsToken, a_word, a_name, a_number, a_text, a_sign, continues, is_whole, Stops, bad_number, open_text, bad_byte, stray}, proofs.Counting.by_bool, proofs.Reserved.spelled_alone, proofs.Lexing.{number_some, numeral_front, prefix_passes}, proofs.Quotes.{Written, closed, stopped, open_ended, read_closed, read_open, read_stopped, written}}
 use Rattle.star_query.specs.declared.token.Word.TheVariants as words
 use Rattle.star_query.specs.declared.token.Relation.TheVariants as r
 use Rattle.star_query.specs.declared.token.Sign.TheVariants as s
 use Rattle.star_query.specs.declared.token.Additive.TheVariants as q
-use Rattle.star_query.specs.Symbols.{Symbol, relation, sign, additive, number, text}
-use Rattle.star_query.specs.Private.Cut.{Piece, blank, token, bad, reserved, word_of, word_piece, number_piece, text_piece, sign_piece, piece_at}
-use Rattle.star_query.specs.Tokens.{is_letter, is_word_byte, begins_with_letter, is_word, signs, IsToken, a_word, a_name, a_number, a_text, a_sign, continues, is_whole, Stops, bad_number, open_text, bad_byte, stray}
-use Rattle.star_query.proofs.{Counting.by_bool, Reserved.spelled_alone, Lexing.number_some, Lexing.numeral_front, Lexing.prefix_passes}
-use Rattle.star_query.proofs.Quotes.{Written, closed, stopped, open_ended, read_closed, read_open, read_stopped, written}
 
--- ---- what begins at a place
+-- ---- what begins at a position
 
-abbrev pub Found : (place : ℕ) → List ℕ → Piece → Type 0
-Found place bytes blank = (b : ℕ) × (bs : List ℕ) × (bytes ≡ b ∷ bs) × (is_blank b ≡ true)
-Found place bytes (token x width) =
+abbrev pub Found : (offset : ℕ) → List ℕ → Piece → Type 0
+Found offset bytes blank = (b : ℕ) × (bs : List ℕ) × (bytes ≡ b ∷ bs) × (is_blank b ≡ true)
+Found offset bytes (token x width) =
     (word : List ℕ) × (rest : List ℕ) × (bytes ≡ word ++ rest) × (length word ≡ width)
-    × IsToken place word x × (is_whole x rest ≡ true)
-Found place bytes (bad e) = Stops place bytes e
+    × IsToken offset word x × (is_whole x rest ≡ true)
+Found offset bytes (bad e) = Stops offset bytes e
 
-either_way : (place : ℕ) (bytes : List ℕ) (c : Bool) (x y : Piece)
-    → (c ≡ true → Found place bytes x) → (c ≡ false → Found place bytes y)
-    → Found place bytes (if c then x else y)
-either_way place bytes true x y f g = f refl
-either_way place bytes false x y f g = g refl
+either_way : (offset : ℕ) (bytes : List ℕ) (c : Bool) (x y : Piece)
+    → (c ≡ true → Found offset bytes x) → (c ≡ false → Found offset bytes y)
+    → Found offset bytes (if c then x else y)
+either_way offset bytes true x y f g = f refl
+either_way offset bytes false x y f g = g refl
 
 -- ---- runs of bytes
 
@@ -55,16 +48,16 @@ over_from x p (b ∷ bs) same over = rw (same b) over
 
 -- ---- words
 
-pub word_goes_on : (place : ℕ) (word : List ℕ) (b : ℕ)
-    → continues (word_of place word) b ≡ is_word_byte b
-word_goes_on place word b = grind arith
+pub word_goes_on : (offset : ℕ) (word : List ℕ) (b : ℕ)
+    → continues (word_of offset word) b ≡ is_word_byte b
+word_goes_on offset word b = grind arith
 
 -- a word is a reserved word or a name
-word_token : (place : ℕ) (word : List ℕ) → is_word word ≡ true
-    → IsToken place word (word_of place word)
-word_token place word is = go (reserved word) refl
+word_token : (offset : ℕ) (word : List ℕ) → is_word word ≡ true
+    → IsToken offset word (word_of offset word)
+word_token offset word is = go (reserved word) refl
   where
-    go : (o : Option Word) → reserved word ≡ o → IsToken place word (word_of place word)
+    go : (o : Option Word) → reserved word ≡ o → IsToken offset word (word_of offset word)
     go None h = rw h (a_name is (λ w e. let found = (spelled_alone w word).1 e in cc) refl)
     go (Some w) h = rw h (a_word is w ((spelled_alone w word).0 h) refl)
 
@@ -73,9 +66,9 @@ front_begins : (p : ℕ → Bool) (b : ℕ) (bs : List ℕ) → p b ≡ true →
 front_begins p b bs e letter = let one : 1 + prefix_len p bs ≡ suc (prefix_len p bs) =
     omega arith in rw (e, one) letter
 
-word_found : (place b : ℕ) (bs : List ℕ) → is_letter b ≡ true
-    → Found place (b ∷ bs) (word_piece place (b ∷ bs))
-word_found place b bs letter =
+word_found : (offset b : ℕ) (bs : List ℕ) → is_letter b ≡ true
+    → Found offset (b ∷ bs) (word_piece offset (b ∷ bs))
+word_found offset b bs letter =
     let bytes = b ∷ bs in
     let byte : is_word_byte b ≡ true = or_left (is_letter b) (is_ascii_digit b) letter in
     let width = prefix_len is_word_byte bytes in (
@@ -83,10 +76,11 @@ word_found place b bs letter =
       drop width bytes,
       sym (take-append-drop width bytes),
       length-prefix_len is_word_byte bytes,
-      word_token place (take width bytes) (and_from _ _ (front_begins is_word_byte b bs byte letter)
+      word_token offset (take width bytes)
+          (and_from _ _ (front_begins is_word_byte b bs byte letter)
           (prefix_passes is_word_byte bytes)),
-      over_from (word_of place (take width bytes)) is_word_byte (drop width bytes)
-          (word_goes_on place (take width bytes)) (run_ends is_word_byte bytes),
+      over_from (word_of offset (take width bytes)) is_word_byte (drop width bytes)
+          (word_goes_on offset (take width bytes)) (run_ends is_word_byte bytes),
     )
 
 -- ---- numbers
@@ -97,18 +91,18 @@ no_more_of_it : (n : ℕ) (rest : List ℕ) → ends is_ascii_digit rest ≡ tru
 unfolding ends
 no_more_of_it n it digits letter = grind (arith, by_bool)
 
-number_found : (place b : ℕ) (bs : List ℕ) → is_ascii_digit b ≡ true
-    → Found place (b ∷ bs) (number_piece place (b ∷ bs))
-number_found place b bs digit =
+number_found : (offset b : ℕ) (bs : List ℕ) → is_ascii_digit b ≡ true
+    → Found offset (b ∷ bs) (number_piece offset (b ∷ bs))
+number_found offset b bs digit =
     let bytes = b ∷ bs in
     let width = prefix_len is_ascii_digit bytes in
     let digits = take width bytes in
     let rest = drop width bytes in
     let some : 1 ≤ width = number_some bytes digit in
     let many : length digits ≡ width = length-prefix_len is_ascii_digit bytes in
-    either_way place bytes (nat_lt 18 width || begins_with_letter rest)
-    (bad (BadNumber place)) (token (number (digits_value 10 digits)) width)
-    (λ wrong. subst (λ all. Stops place all (BadNumber place)) (take-append-drop width bytes)
+    either_way offset bytes (nat_lt 18 width || begins_with_letter rest)
+    (bad (BadNumber offset)) (token (number (digits_value 10 digits)) width)
+    (λ wrong. subst (λ all. Stops offset all (BadNumber offset)) (take-append-drop width bytes)
     (bad_number digits rest (omega (arith, many, some)) (prefix_passes is_ascii_digit bytes)
     (by_bool (nat_lt 18 width)
     (λ long. inl (let h : 18 < width = ltb-true 18 width long in omega (arith, many, h)))
@@ -133,11 +127,11 @@ pub quoted_front : (t rest : List ℕ) → quoted t ++ rest ≡ 39 ∷ (flat_map
 unfolding quoted
 quoted_front t rest = ap (λ xs. 39 ∷ xs) (append_assoc (flat_map doubled t) (39 ∷ []) rest)
 
-text_found : (place : ℕ) (bytes : List ℕ) → Written bytes
-    → Found place (39 ∷ bytes) (text_piece place bytes)
-text_found place _ (closed t rest printed over) =
-    subst (Found place (39 ∷ (flat_map doubled t ++ 39 ∷ rest)))
-    (sym (read_closed place t rest printed over)) (
+text_found : (offset : ℕ) (bytes : List ℕ) → Written bytes
+    → Found offset (39 ∷ bytes) (text_piece offset bytes)
+text_found offset _ (closed t rest printed over) =
+    subst (Found offset (39 ∷ (flat_map doubled t ++ 39 ∷ rest)))
+    (sym (read_closed offset t rest printed over)) (
       quoted t,
       rest,
       sym (quoted_front t rest),
@@ -145,21 +139,21 @@ text_found place _ (closed t rest printed over) =
       a_text t printed refl refl,
       over_text t [] rest ∙ over,
     )
-text_found place _ (stopped t rest b printed wrong) =
-    subst (Found place (39 ∷ (flat_map doubled t ++ b ∷ rest)))
-    (sym (read_stopped place t rest b printed wrong)) (bad_byte t rest b printed wrong)
-text_found place _ (open_ended t printed) =
-    subst (Found place (39 ∷ flat_map doubled t)) (sym (read_open place t printed))
+text_found offset _ (stopped t rest b printed wrong) =
+    subst (Found offset (39 ∷ (flat_map doubled t ++ b ∷ rest)))
+    (sym (read_stopped offset t rest b printed wrong)) (bad_byte t rest b printed wrong)
+text_found offset _ (open_ended t printed) =
+    subst (Found offset (39 ∷ flat_map doubled t)) (sym (read_open offset t printed))
     (open_text t printed)
 
 -- ---- signs
 
--- what holds of all holds of the one at a place
-at_place : {X : Type 0} (P : X → Type 0) (xs : List X) (k : ℕ) (d : X) → AllByRecursion P xs
+-- what holds of all holds of the one at a position
+at_position : {X : Type 0} (P : X → Type 0) (xs : List X) (k : ℕ) (d : X) → AllByRecursion P xs
     → k < length xs → P (slice_index_or xs k d)
-at_place P [] k d all below = absurd (omega arith)
-at_place P (x ∷ xs) zero d all below = all.0
-at_place P (x ∷ xs) (suc k) d all below = at_place P xs k d all.1 (omega arith)
+at_position P [] k d all below = absurd (omega arith)
+at_position P (x ∷ xs) zero d all below = all.0
+at_position P (x ∷ xs) (suc k) d all below = at_position P xs k d all.1 (omega arith)
 
 -- in the order of the table
 pub each_sign : (P : List ℕ × Symbol → Type 0) (word : List ℕ) (x : Symbol)
@@ -171,15 +165,15 @@ pub each_sign : (P : List ℕ × Symbol → Type 0) (word : List ℕ) (x : Symbo
     → P (codes "+", additive q.Plus) → P (codes "-", additive q.Minus)
     → Contains signs (word, x) → P (word, x)
 each_sign P word x a b c d e f g h i j k l m (n, below, is) =
-    subst P is (at_place P signs n (word, x)
+    subst P is (at_position P signs n (word, x)
     (a, (b, (c, (d, (e, (f, (g, (h, (i, (j, (k, (l, (m, tt))))))))))))) below)
 
 -- a byte that signs begin with
-sign_first : (place b n : ℕ) (bs : List ℕ) → (b == n) ≡ true
-    → Found place (n ∷ bs) (sign_piece place n (slice_get bs 0))
-    → Found place (b ∷ bs) (sign_piece place b (slice_get bs 0))
-sign_first place b n bs is found =
-    subst (λ c. Found place (c ∷ bs) (sign_piece place c (slice_get bs 0)))
+sign_first : (offset b n : ℕ) (bs : List ℕ) → (b == n) ≡ true
+    → Found offset (n ∷ bs) (sign_piece offset n (slice_get bs 0))
+    → Found offset (b ∷ bs) (sign_piece offset b (slice_get bs 0))
+sign_first offset b n bs is found =
+    subst (λ c. Found offset (c ∷ bs) (sign_piece offset c (slice_get bs 0)))
     (sym (eqb-true b n is)) found
 
 nothing_over : (x : Symbol) (rest : List ℕ) → ((b : ℕ) → continues x b ≡ false)
@@ -187,42 +181,41 @@ nothing_over : (x : Symbol) (rest : List ℕ) → ((b : ℕ) → continues x b �
 nothing_over x [] none = refl
 nothing_over x (b ∷ bs) none = rw (none b) refl
 
-a_sign_of : (place : ℕ) (word rest : List ℕ) (x : Symbol) → Contains signs (word, x)
-    → is_whole x rest ≡ true
-    → Found place (word ++ rest) (token x (length word))
-a_sign_of place word rest x there over = (word, rest, refl, refl, a_sign there, over)
+a_sign_of : (offset : ℕ) (word rest : List ℕ) (x : Symbol) → Contains signs (word, x)
+    → is_whole x rest ≡ true → Found offset (word ++ rest) (token x (length word))
+a_sign_of offset word rest x there over = (word, rest, refl, refl, a_sign there, over)
 
-lone : (place n k : ℕ) (bs : List ℕ) (x : Symbol) → Contains signs (n ∷ [], x)
-    → ((b : ℕ) → continues x b ≡ false) → Found place (n ∷ bs) (token x 1)
-lone place n k bs x there none = a_sign_of place (n ∷ []) bs x there (nothing_over x bs none)
+lone : (offset n k : ℕ) (bs : List ℕ) (x : Symbol) → Contains signs (n ∷ [], x)
+    → ((b : ℕ) → continues x b ≡ false) → Found offset (n ∷ bs) (token x 1)
+lone offset n k bs x there none = a_sign_of offset (n ∷ []) bs x there (nothing_over x bs none)
 
-less_found : (place : ℕ) (bs : List ℕ)
-    → Found place (60 ∷ bs) (sign_piece place 60 (slice_get bs 0))
-less_found place [] = a_sign_of place (60 ∷ []) [] _ (3, omega arith, refl) refl
-less_found place (c ∷ cs) =
+less_found : (offset : ℕ) (bs : List ℕ)
+    → Found offset (60 ∷ bs) (sign_piece offset 60 (slice_get bs 0))
+less_found offset [] = a_sign_of offset (60 ∷ []) [] _ (3, omega arith, refl) refl
+less_found offset (c ∷ cs) =
     by_bool (c == 61)
-    (λ e. subst (λ d. Found place (60 ∷ d ∷ cs) (sign_piece place 60 (Some d)))
+    (λ e. subst (λ d. Found offset (60 ∷ d ∷ cs) (sign_piece offset 60 (Some d)))
     (sym (eqb-true c 61 e))
-    (a_sign_of place (60 ∷ 61 ∷ []) cs _ (0, omega arith, refl)
+    (a_sign_of offset (60 ∷ 61 ∷ []) cs _ (0, omega arith, refl)
     (nothing_over (relation r.AtMost) cs (λ b. refl))))
     (λ e. by_bool (c == 62)
-    (λ f. subst (λ d. Found place (60 ∷ d ∷ cs) (sign_piece place 60 (Some d)))
+    (λ f. subst (λ d. Found offset (60 ∷ d ∷ cs) (sign_piece offset 60 (Some d)))
     (sym (eqb-true c 62 f))
-    (a_sign_of place (60 ∷ 62 ∷ []) cs _ (1, omega arith, refl)
+    (a_sign_of offset (60 ∷ 62 ∷ []) cs _ (1, omega arith, refl)
     (nothing_over (relation r.Unequal) cs (λ b. refl))))
-    (λ f. rw (e, f) (a_sign_of place (60 ∷ []) (c ∷ cs) _ (3, omega arith, refl)
+    (λ f. rw (e, f) (a_sign_of offset (60 ∷ []) (c ∷ cs) _ (3, omega arith, refl)
     (rw (e, f) refl))))
 
-greater_found : (place : ℕ) (bs : List ℕ)
-    → Found place (62 ∷ bs) (sign_piece place 62 (slice_get bs 0))
-greater_found place [] = a_sign_of place (62 ∷ []) [] _ (4, omega arith, refl) refl
-greater_found place (c ∷ cs) =
+greater_found : (offset : ℕ) (bs : List ℕ)
+    → Found offset (62 ∷ bs) (sign_piece offset 62 (slice_get bs 0))
+greater_found offset [] = a_sign_of offset (62 ∷ []) [] _ (4, omega arith, refl) refl
+greater_found offset (c ∷ cs) =
     by_bool (c == 61)
-    (λ e. subst (λ d. Found place (62 ∷ d ∷ cs) (sign_piece place 62 (Some d)))
+    (λ e. subst (λ d. Found offset (62 ∷ d ∷ cs) (sign_piece offset 62 (Some d)))
     (sym (eqb-true c 61 e))
-    (a_sign_of place (62 ∷ 61 ∷ []) cs _ (2, omega arith, refl)
+    (a_sign_of offset (62 ∷ 61 ∷ []) cs _ (2, omega arith, refl)
     (nothing_over (relation r.AtLeast) cs (λ b. refl))))
-    (λ e. rw e (a_sign_of place (62 ∷ []) (c ∷ cs) _ (4, omega arith, refl) (rw e refl)))
+    (λ e. rw e (a_sign_of offset (62 ∷ []) (c ∷ cs) _ (4, omega arith, refl) (rw e refl)))
 
 -- no sign begins with a byte that none begins with
 other_first : (b n : ℕ) (bs : List ℕ) (more rest : List ℕ) → (b == n) ≡ false
@@ -230,27 +223,27 @@ other_first : (b n : ℕ) (bs : List ℕ) (more rest : List ℕ) → (b == n) �
 other_first b n bs more rest apart e =
     let same : b ≡ n = cc in absurd (let wrong = rw (eq-eqb b n same) at apart in cc)
 
-sign_found : (place b : ℕ) (bs : List ℕ) → is_blank b ≡ false → is_word_byte b ≡ false
-    → (b == 39) ≡ false → Found place (b ∷ bs) (sign_piece place b (slice_get bs 0))
-sign_found place b bs no_blank no_word no_quote =
-    by_bool (b == 44) (λ e. sign_first place b 44 bs e
-    (lone place 44 6 bs (sign _) (6, omega arith, refl) (λ c. refl))) (λ e44.
-    by_bool (b == 40) (λ e. sign_first place b 40 bs e
-    (lone place 40 7 bs (sign _) (7, omega arith, refl) (λ c. refl))) (λ e40.
-    by_bool (b == 41) (λ e. sign_first place b 41 bs e
-    (lone place 41 8 bs (sign _) (8, omega arith, refl) (λ c. refl))) (λ e41.
-    by_bool (b == 42) (λ e. sign_first place b 42 bs e
-    (lone place 42 9 bs (sign _) (9, omega arith, refl) (λ c. refl))) (λ e42.
-    by_bool (b == 43) (λ e. sign_first place b 43 bs e
-    (lone place 43 11 bs (additive _) (11, omega arith, refl) (λ c. refl))) (λ e43.
-    by_bool (b == 45) (λ e. sign_first place b 45 bs e
-    (lone place 45 12 bs (additive _) (12, omega arith, refl) (λ c. refl))) (λ e45.
-    by_bool (b == 59) (λ e. sign_first place b 59 bs e
-    (lone place 59 10 bs (sign _) (10, omega arith, refl) (λ c. refl))) (λ e59.
-    by_bool (b == 61) (λ e. sign_first place b 61 bs e
-    (lone place 61 5 bs (relation _) (5, omega arith, refl) (λ c. refl))) (λ e61.
-    by_bool (b == 60) (λ e. sign_first place b 60 bs e (less_found place bs)) (λ e60.
-    by_bool (b == 62) (λ e. sign_first place b 62 bs e (greater_found place bs)) (λ e62.
+sign_found : (offset b : ℕ) (bs : List ℕ) → is_blank b ≡ false → is_word_byte b ≡ false
+    → (b == 39) ≡ false → Found offset (b ∷ bs) (sign_piece offset b (slice_get bs 0))
+sign_found offset b bs no_blank no_word no_quote =
+    by_bool (b == 44) (λ e. sign_first offset b 44 bs e
+    (lone offset 44 6 bs (sign _) (6, omega arith, refl) (λ c. refl))) (λ e44.
+    by_bool (b == 40) (λ e. sign_first offset b 40 bs e
+    (lone offset 40 7 bs (sign _) (7, omega arith, refl) (λ c. refl))) (λ e40.
+    by_bool (b == 41) (λ e. sign_first offset b 41 bs e
+    (lone offset 41 8 bs (sign _) (8, omega arith, refl) (λ c. refl))) (λ e41.
+    by_bool (b == 42) (λ e. sign_first offset b 42 bs e
+    (lone offset 42 9 bs (sign _) (9, omega arith, refl) (λ c. refl))) (λ e42.
+    by_bool (b == 43) (λ e. sign_first offset b 43 bs e
+    (lone offset 43 11 bs (additive _) (11, omega arith, refl) (λ c. refl))) (λ e43.
+    by_bool (b == 45) (λ e. sign_first offset b 45 bs e
+    (lone offset 45 12 bs (additive _) (12, omega arith, refl) (λ c. refl))) (λ e45.
+    by_bool (b == 59) (λ e. sign_first offset b 59 bs e
+    (lone offset 59 10 bs (sign _) (10, omega arith, refl) (λ c. refl))) (λ e59.
+    by_bool (b == 61) (λ e. sign_first offset b 61 bs e
+    (lone offset 61 5 bs (relation _) (5, omega arith, refl) (λ c. refl))) (λ e61.
+    by_bool (b == 60) (λ e. sign_first offset b 60 bs e (less_found offset bs)) (λ e60.
+    by_bool (b == 62) (λ e. sign_first offset b 62 bs e (greater_found offset bs)) (λ e62.
     rw (e44, e40, e41, e42, e43, e45, e59, e61, e60, e62)
     (stray b bs no_blank no_word no_quote (λ word x rest there.
     each_sign (λ (w, y). (rest : List ℕ) → b ∷ bs ≡ w ++ rest → ⊥) word x
@@ -266,15 +259,16 @@ sign_found place b bs no_blank no_word no_quote =
 
 -- ---- any of them
 
-pub piece_found : (place b : ℕ) (bs : List ℕ) → Found place (b ∷ bs) (piece_at place b bs)
-piece_found place b bs =
-    either_way place (b ∷ bs) (is_blank b) blank _ (λ e. (b, bs, refl, e)) (λ no_blank.
-    either_way place (b ∷ bs) (is_letter b) (word_piece place (b ∷ bs)) _
-    (λ e. word_found place b bs e) (λ no_letter.
-    either_way place (b ∷ bs) (is_ascii_digit b) (number_piece place (b ∷ bs)) _
-    (λ e. number_found place b bs e) (λ no_digit.
-    either_way place (b ∷ bs) (b == 39) (text_piece place bs) (sign_piece place b (slice_get bs 0))
-    (λ e. subst (λ c. Found place (c ∷ bs) (text_piece place bs)) (sym (eqb-true b 39 e))
-    (text_found place bs (written bs)))
-    (λ no_quote. sign_found place b bs no_blank
+pub piece_found : (offset b : ℕ) (bs : List ℕ) → Found offset (b ∷ bs) (piece_at offset b bs)
+piece_found offset b bs =
+    either_way offset (b ∷ bs) (is_blank b) blank _ (λ e. (b, bs, refl, e)) (λ no_blank.
+    either_way offset (b ∷ bs) (is_letter b) (word_piece offset (b ∷ bs)) _
+    (λ e. word_found offset b bs e) (λ no_letter.
+    either_way offset (b ∷ bs) (is_ascii_digit b) (number_piece offset (b ∷ bs)) _
+    (λ e. number_found offset b bs e) (λ no_digit.
+    either_way offset (b ∷ bs) (b == 39) (text_piece offset bs)
+    (sign_piece offset b (slice_get bs 0))
+    (λ e. subst (λ c. Found offset (c ∷ bs) (text_piece offset bs)) (sym (eqb-true b 39 e))
+    (text_found offset bs (written bs)))
+    (λ no_quote. sign_found offset b bs no_blank
     (or_from (is_letter b) (is_ascii_digit b) no_letter no_digit) no_quote))))

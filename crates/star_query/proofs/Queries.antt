@@ -1,11 +1,8 @@
 -- The parser's functions on the clauses of a query go with the machine.
-use Rattle.std.proofs.Common.{◌≡◌, ◌∙◌, ℕ, ◌<◌, ◌≤◌, Bool, false, List, [], ◌∷◌, map, length, Option, Some, None, Result, Ok, Err, refl, sym, ap, subst, arith}
-use Rattle.std.specs.Prelude.{OnOk, ◌==◌}
-use Rattle.std.specs.{Bool.OnTrue, Bool.OnFalse, declared.alloc.Global.Global, declared.vec.Vec.Vec}
-use Rattle.star_query.specs.declared.{token.Fold.Fold, fault.Fault.TheVariants.Unexpected, fault.ParseError.ParseError, clauses.Function.Function, parser.Parser.Parser, token.Token.Token, tree.Name.Name, tree.Expression.Expression, tree.Test.Test, tree.Condition.Condition, tree.Measure.Measure, tree.Grouping.Grouping, tree.SortKey.SortKey, tree.Tree.Tree}
+use Rattle.std.{proofs.Common.{◌≡◌, ◌∙◌, ℕ, ◌<◌, ◌≤◌, Bool, false, List, [], ◌∷◌, map, length, Option, Some, None, Result, Ok, Err, refl, sym, ap, subst, arith}, specs.Prelude.{OnOk, ◌==◌}, specs.Bool.{OnTrue, OnFalse}, specs.declared.alloc.Global.Global, specs.declared.vec.Vec.Vec}
+use Rattle.star_query.{specs.declared.token.Fold.Fold, specs.declared.fault.Fault.TheVariants.Unexpected, specs.declared.fault.ParseError.ParseError, specs.declared.clauses.Function.Function, specs.declared.parser.Parser.Parser, specs.declared.token.Token.Token, specs.declared.tree.Name.Name, specs.declared.tree.Expression.Expression, specs.declared.tree.Test.Test, specs.declared.tree.Condition.Condition, specs.declared.tree.Measure.Measure, specs.declared.tree.Grouping.Grouping, specs.declared.tree.SortKey.SortKey, specs.declared.tree.Tree.Tree, specs.declared.counts.Part.Part, specs.Private.Lexed.symbol_of, specs.Symbols.{Symbol, keyword, sign, name}, specs.Private.Lists.{PassesComma, bad_along}, specs.Private.Phrases.{Several, Agg, folded, counted, Cond, lone_conj, or_conj, Key, unmarked, ascending, descending, grouped, hiding, at, first, ident, agg_tree, Hiding, cube, rollup, hiding_word, shape_of}, specs.Private.Machine.{extended, in_where, Filtered, Grouped, filtered_by, grouped_by, query_of, ParserState, item_wanted, fold_named, count_named, cond_had, agg_had, alias_wanted, items_had, table_wanted, tables_had, filtered_had, by_had, hiding_had, column_wanted, columns_had, grouped_had, key_wanted, key_named, keys_had, done, to, next_step, query_at_end, Bad}, specs.Views.{name_view, measure_view}, specs.Private.Reads.{Spot, spot_of, head_of, No, verdict, EndsBad, Takes, NoName, ReadsName, ReadsExpr, ReadsCond, NoLogic}, specs.Private.Clauses.{function_symbol, function_named, function_parts, ReadsFolded, ReadsCounted, ReadsMeasure, ReadsAlias, ReadsAggregate, ReadsItem, NoComma, ReadsItems, ReadsTable, ReadsTables, ReadsFilter, ReadsColumn, ReadsColumns, ReadsHidden, ReadsGroups, ReadsGrouping, ReadsKey, ReadsKeyList, ReadsKeys, ReadsEnd, ReadsQuery}, proofs.Accepting.fold_closes, proofs.Descent.{takes, stuck, bad_name, same_from, head_no_name}}
 use Rattle.star_query.specs.declared.token.Keyword.TheVariants as k
 use Rattle.star_query.specs.declared.token.Sign.TheVariants as s
-use Rattle.star_query.specs.{declared.counts.Part.Part, Private.Lexed.symbol_of, Symbols.Symbol, Symbols.keyword, Symbols.sign, Symbols.name, Private.Lists.PassesComma, Private.Lists.bad_along}
 use Rattle.star_query.specs.declared.counts.Part.TheVariants as part
 use Rattle.star_query.specs.declared.fault.ParseError.TheVariants as errors
 use Rattle.star_query.specs.declared.tree.Measure.TheVariants as measures
@@ -13,12 +10,6 @@ use Rattle.star_query.specs.declared.tree.Item.TheVariants as items
 use Rattle.star_schema.specs.declared.group.{Shape.Shape, Shape.TheVariants.Plain, Direction.TheVariants.Ascending, Direction.TheVariants.Descending}
 use Rattle.star_query.specs.Tree as tree
 use Rattle.star_query.specs.Private.Phrases as grammar
-use Rattle.star_query.specs.Private.Phrases.{Several, Agg, folded, counted, Cond, lone_conj, or_conj, Key, unmarked, ascending, descending, grouped, hiding, at, first, ident, agg_tree, Hiding, cube, rollup, hiding_word, shape_of}
-use Rattle.star_query.specs.Private.Machine.{extended, in_where, Filtered, Grouped, filtered_by, grouped_by, query_of, ParserState, item_wanted, fold_named, count_named, cond_had, agg_had, alias_wanted, items_had, table_wanted, tables_had, filtered_had, by_had, hiding_had, column_wanted, columns_had, grouped_had, key_wanted, key_named, keys_had, done, to, next_step, query_at_end, Bad}
-use Rattle.star_query.specs.Views.{name_view, measure_view}
-use Rattle.star_query.specs.Private.Reads.{Spot, spot_of, head_of, No, verdict, EndsBad, Takes, NoName, ReadsName, ReadsExpr, ReadsCond, NoLogic}
-use Rattle.star_query.specs.Private.Clauses.{function_symbol, function_named, function_parts, ReadsFolded, ReadsCounted, ReadsMeasure, ReadsAlias, ReadsAggregate, ReadsItem, NoComma, ReadsItems, ReadsTable, ReadsTables, ReadsFilter, ReadsColumn, ReadsColumns, ReadsHidden, ReadsGroups, ReadsGrouping, ReadsKey, ReadsKeyList, ReadsKeys, ReadsEnd, ReadsQuery}
-use Rattle.star_query.proofs.{Accepting.fold_closes, Descent.takes, Descent.stuck, Descent.bad_name, Descent.same_from, Descent.head_no_name}
 
 zero_deep : 0 ≤ 32
 zero_deep = omega arith
@@ -56,30 +47,30 @@ pub folded_measure : (f : Function) (q : Fold) (old new : Spot)
     (r : Result (Measure Name) ParseError) → f.fold ≡ Some q → ReadsFolded q old new r
     → ReadsMeasure f old new r
 folded_measure f q old new (Ok m) e reads = (
-  folded q f.place reads.0,
-  ap (λ x. record { measure = x; place = f.place; name = None }) reads.1,
-  λ b u. ap (verdict old) (named b) ∙ reads.2 (b, f.place) tt,
+  folded q f.offset reads.0,
+  ap (λ x. record { measure = x; offset = f.offset; name = None }) reads.1,
+  λ b u. ap (verdict old) (named b) ∙ reads.2 (b, f.offset) tt,
 )
   where
-    named : (b : Option (Several grammar.Item)) → function_named b f ≡ fold_named b q f.place
+    named : (b : Option (Several grammar.Item)) → function_named b f ≡ fold_named b q f.offset
     named b = rw e refl
 folded_measure f q old new (Err x) e reads =
     λ b u. bad_along x new _ _
-    (ap (verdict old) (let named : function_named b f ≡ fold_named b q f.place = rw e refl in
-    named)) (reads (b, f.place) tt)
+    (ap (verdict old) (let named : function_named b f ≡ fold_named b q f.offset = rw e refl in
+    named)) (reads (b, f.offset) tt)
 
 pub counted_measure : (f : Function) (old new : Spot) (r : Result (Measure Name) ParseError)
     → f.fold ≡ None → ReadsCounted old new r → ReadsMeasure f old new r
 counted_measure f old new (Ok m) e reads = (
-  counted f.place,
-  ap (λ x. record { measure = x; place = f.place; name = None }) reads.1,
-  λ b u. ap (verdict old) (let named : function_named b f ≡ count_named b f.place =
-      rw e refl in named) ∙ reads.2 (b, f.place) tt,
+  counted f.offset,
+  ap (λ x. record { measure = x; offset = f.offset; name = None }) reads.1,
+  λ b u. ap (verdict old) (let named : function_named b f ≡ count_named b f.offset =
+      rw e refl in named) ∙ reads.2 (b, f.offset) tt,
 )
 counted_measure f old new (Err x) e reads =
     λ b u. bad_along x new _ _
-    (ap (verdict old) (let named : function_named b f ≡ count_named b f.place = rw e refl in
-    named)) (reads (b, f.place) tt)
+    (ap (verdict old) (let named : function_named b f ≡ count_named b f.offset = rw e refl in
+    named)) (reads (b, f.offset) tt)
 
 agg_step : (b : Option (Several grammar.Item)) (a : Agg) (x : Symbol) → (x ≡ keyword k.As → ⊥)
     → next_step (agg_had b a) x ≡ next_step (items_had (extended b (grammar.aggregate a None))) x
@@ -108,7 +99,7 @@ abbrev with_name : Option tree.Name → tree.Aggregate → tree.Aggregate
 with_name p x = record x { name = p }
 
 abbrev aggregate_with : tree.Measure tree.Name → ℕ → Option tree.Name → tree.Aggregate
-aggregate_with m place p = record { measure = m; place = place; name = p }
+aggregate_with m offset p = record { measure = m; offset = offset; name = p }
 
 renamed : (a : Agg) (p : Option tree.Name) → agg_tree a p ≡ with_name p (agg_tree a None)
 renamed (folded f p e) i = refl
@@ -116,18 +107,18 @@ renamed (counted p) i = refl
 
 pub read_aggregate : (f : Function) (old mid new : Spot) (m : Measure Name) (n : Option Name)
     → ReadsMeasure f old mid (Ok m) → ReadsAlias mid new (Ok n)
-    → ReadsAggregate f old new (Ok (record { measure = m; place = f.place; name = n }))
+    → ReadsAggregate f old new (Ok (record { measure = m; offset = f.offset; name = n }))
 read_aggregate f old mid new m n measure alias = (
   grammar.aggregate measure.0 alias.0,
   ap tree.aggregate (renamed measure.0 alias.0 ∙ ap (with_name alias.0) measure.1
-      ∙ ap (aggregate_with (measure_view m) f.place) alias.1),
+      ∙ ap (aggregate_with (measure_view m) f.offset) alias.1),
   λ b u. measure.2 b tt ∙ alias.2 (b, measure.0) tt,
 )
 
 function_step : (b : Option (Several grammar.Item)) (o : Option Fold) (p : ℕ)
-    → next_step (item_wanted b) (function_symbol (record { fold = o; place = p }))
-    ≡ to (function_named b (record { fold = o; place = p }))
-    (first function_parts 0 (function_symbol (record { fold = o; place = p })))
+    → next_step (item_wanted b) (function_symbol (record { fold = o; offset = p }))
+    ≡ to (function_named b (record { fold = o; offset = p }))
+    (first function_parts 0 (function_symbol (record { fold = o; offset = p })))
 function_step b (Some f) p = refl
 function_step b None p = refl
 
@@ -139,8 +130,7 @@ read_item_name old mid new n same t = (
   λ b u. ap (λ s. verdict s (item_wanted b)) (sym same) ∙ past _ _ t refl,
 )
 
--- items
--- tables
+-- items tables
 only_table : (is : Several grammar.Item) (b : Option (Several tree.Name)) (x : Symbol)
     → NoName (x ∷ []) → next_step (table_wanted is b) x ≡ None
 only_table is b (name t p) none = absurd none
@@ -237,8 +227,7 @@ read_hidden shape old a b new v opened reads closed = (
 )
 
 pub bad_hidden_columns : (shape : Shape) (old a new : Spot) (e : ParseError)
-    → Takes old a (sign s.Open) [] → ReadsColumns a new (Err e)
-    → ReadsHidden shape old new (Err e)
+    → Takes old a (sign s.Open) [] → ReadsColumns a new (Err e) → ReadsHidden shape old new (Err e)
 bad_hidden_columns shape old a new e opened bad =
     λ h u. bad_along e new _ _ (past _ _ opened refl) (bad (h.0, Some h.1) tt)
 
@@ -391,7 +380,7 @@ some_left f (t ∷ ts) b e none = omega arith
 
 pub left_over : (parser : Parser) (b : Bool) → b ≡ (length parser.left.now == 0) → b ≡ false
     → 0 < length (spot_of parser).left
-left_over parser b e none = some_left (λ t. symbol_of t.kind t.place) parser.left.now b e none
+left_over parser b e none = some_left (λ t. symbol_of t.kind t.offset) parser.left.now b e none
 
 -- what was refused in a list
 pub bad_aggregate : (f : Function) (old mid new : Spot) (m : Measure Name) (e : ParseError)
@@ -404,7 +393,7 @@ pub bad_item_aggregate : (old mid new : Spot) (f : Function) (e : ParseError)
     → ReadsItem old new (Err e)
 bad_item_aggregate old mid new f e t b =
     λ h u. bad_along e new _ _
-    (past _ _ t (function_step h f.fold f.place)) (b h tt)
+    (past _ _ t (function_step h f.fold f.offset)) (b h tt)
 
 -- a query
 items_end : (is : Several grammar.Item) (x : Symbol) → (x ≡ sign s.Comma → ⊥)

@@ -1,11 +1,7 @@
 -- The bytes after an opening quote: a text that is closed, or stopped by a byte, or open.
-use Rattle.std.proofs.Common.{◌≡◌, ◌∙◌, refl, sym, ap, subst, ℕ, suc, ◌+◌, ◌-◌, true, false, List, [], ◌∷◌, ◌++◌, length, arith, length-append, append_assoc, append-nil}
-use Rattle.std.proofs.{Math.Seq.take-append_seam, lemmas.Bool.and_from, lemmas.Bool.and_parts, lemmas.Bool.eqb-true}
-use Rattle.std.specs.{Prelude.◌==◌, List.flat_map, List.list_all}
+use Rattle.std.{proofs.Common.{◌≡◌, ◌∙◌, refl, sym, ap, subst, ℕ, suc, ◌+◌, ◌-◌, true, false, List, [], ◌∷◌, ◌++◌, length, arith, length-append, append_assoc, append-nil}, proofs.Math.Seq.take-append_seam, proofs.lemmas.Bool.{and_from, and_parts, eqb-true}, specs.Prelude.◌==◌, specs.List.{flat_map, list_all}}
 use Rattle.star_common.specs.{Quotes.doubled, Quotes.quoted, Printable.is_printable}
-use Rattle.star_query.specs.Private.Cut.{Ending, token, bad, farther, ending_after, undoubled, text_piece}
-use Rattle.star_query.specs.{declared.fault.QueryFault.TheVariants.BadCharacter, declared.fault.QueryFault.TheVariants.OpenText, Symbols.text, Tokens.is_whole, Private.Lexed.ended_at}
-use Rattle.star_query.proofs.Counting.{by_bool}
+use Rattle.star_query.{specs.Private.Cut.{Ending, token, bad, farther, ending_after, undoubled, text_piece}, specs.declared.fault.QueryFault.TheVariants.{BadCharacter, OpenText}, specs.Symbols.text, specs.Tokens.is_whole, specs.Private.Lexed.ended_at, proofs.Counting.by_bool}
 use Rattle.star_query.specs.Private.Cut as cut
 
 -- ---- the three forms
@@ -83,11 +79,11 @@ closes (c ∷ cs) over =
     by_bool (c == 39) (λ quote. absurd (let wrong = rw quote at over in cc))
     (λ other. rw other refl)
 
-pub read_closed : (place : ℕ) (t rest : List ℕ) → list_all is_printable t ≡ true
+pub read_closed : (offset : ℕ) (t rest : List ℕ) → list_all is_printable t ≡ true
     → is_whole (text []) rest ≡ true
-    → text_piece place (flat_map doubled t ++ 39 ∷ rest) ≡ token (text t) (length (quoted t))
+    → text_piece offset (flat_map doubled t ++ 39 ∷ rest) ≡ token (text t) (length (quoted t))
 unfolding quoted
-read_closed place t rest printed over =
+read_closed offset t rest printed over =
     let inside = flat_map doubled t in
     let e : ending_after false (inside ++ 39 ∷ rest) ≡ cut.closed (length inside + 1) =
     ends_on t (39 ∷ rest) printed ∙ ap (ended_at (length inside)) (closes rest over) in
@@ -96,9 +92,9 @@ read_closed place t rest printed over =
     omega (arith, length-append inside (39 ∷ [])) in
     rw (e, less, width, take-append_seam inside (39 ∷ rest), said_again t) refl
 
-pub read_open : (place : ℕ) (t : List ℕ) → list_all is_printable t ≡ true
-    → text_piece place (flat_map doubled t) ≡ bad (OpenText place)
-read_open place t printed =
+pub read_open : (offset : ℕ) (t : List ℕ) → list_all is_printable t ≡ true
+    → text_piece offset (flat_map doubled t) ≡ bad (OpenText offset)
+read_open offset t printed =
     let e : ending_after false (flat_map doubled t) ≡ cut.open_ended =
     ap (ending_after false) (sym (append-nil (flat_map doubled t))) ∙ ends_on t [] printed in
     rw e refl
@@ -108,11 +104,11 @@ no_quote : (b : ℕ) → is_printable b ≡ false → (b == 39) ≡ false
 no_quote b fails = by_bool (b == 39)
     (λ quote. absurd (let wrong = rw (eqb-true b 39 quote) at fails in cc)) (λ other. other)
 
-pub read_stopped : (place : ℕ) (t rest : List ℕ) (b : ℕ) → list_all is_printable t ≡ true
+pub read_stopped : (offset : ℕ) (t rest : List ℕ) (b : ℕ) → list_all is_printable t ≡ true
     → is_printable b ≡ false
-    → text_piece place (flat_map doubled t ++ b ∷ rest)
-    ≡ bad (BadCharacter (place + 1 + length (flat_map doubled t)))
-read_stopped place t rest b printed wrong =
+    → text_piece offset (flat_map doubled t ++ b ∷ rest)
+    ≡ bad (BadCharacter (offset + 1 + length (flat_map doubled t)))
+read_stopped offset t rest b printed wrong =
     let n = length (flat_map doubled t) in
     let here : ending_after false (b ∷ rest) ≡ cut.stopped 0 = rw (no_quote b wrong, wrong) refl in
     let e : ending_after false (flat_map doubled t ++ b ∷ rest) ≡ cut.stopped n =

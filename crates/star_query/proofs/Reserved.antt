@@ -1,9 +1,7 @@
 -- A word is the reserved word that it spells, and no other.
 use Rattle.std.proofs.Common.{◌≡◌, ◌↔◌, ℕ, List, Some, refl, sym, arith}
-use Rattle.star_schema.specs.Words.{named}
-use Rattle.star_schema.proofs.NamesApart.{by_name}
-use Rattle.star_query.specs.declared.token.{Word.Word}
-use Rattle.star_query.specs.{Symbols.spelling, Symbols.lowered, Private.Cut.reserved, Private.Cut.reserved_words}
+use Rattle.star_schema.{specs.Words.named, proofs.NamesApart.by_name}
+use Rattle.star_query.specs.{declared.token.Word.Word, Symbols.{spelling, lowered}, Private.Cut.{reserved, reserved_words}}
 
 -- each word is found by its spelling
 by_spelling : (w : Word) → named spelling reserved_words (spelling w) ≡ Some w

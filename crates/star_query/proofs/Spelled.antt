@@ -1,17 +1,10 @@
 -- What a text means is spelled as the grammar wants.
-use Rattle.std.proofs.Common.{◌≡◌, ◌∙◌, ◌^◌, ℕ, zero, suc, true, Bool, List, [], ◌∷◌, ◌++◌, length, Option, refl, subst, if◌then◌else◌, arith}
-use Rattle.std.specs.{Prelude.nat_lt, Prelude.neg_ℤ, Prelude.pos, List.AllByRecursion, List.list_all}
-use Rattle.std.proofs.lemmas.{Bool.and_from, Bool.and_parts, Bool.le-leb, List.Folds.list_all-append}
-use Rattle.star_query.specs.declared.{counts.Part.Part, token.Additive.TheVariants.Plus, token.Additive.TheVariants.Minus}
+use Rattle.std.{proofs.Common.{◌≡◌, ◌∙◌, ◌^◌, ℕ, zero, suc, true, Bool, List, [], ◌∷◌, ◌++◌, length, Option, refl, subst, if◌then◌else◌, arith}, specs.Prelude.{nat_lt, neg_ℤ, pos}, specs.List.{AllByRecursion, list_all}, proofs.lemmas.Bool.{and_from, and_parts, le-leb}, proofs.lemmas.List.Folds.list_all-append}
+use Rattle.star_query.{specs.declared.counts.Part.Part, specs.declared.token.Additive.TheVariants.{Plus, Minus}, specs.Symbols.{additive, keyword, sign, name}, specs.Tokens.{begins_with_letter, is_word_byte}, specs.Derives.{IsShortName, symbols_at, Means}, specs.Tree.{Name, Expression, Condition, Test, Measure, Grouping, SortKey, Tree}, specs.Grammar.{Mark, Several, IsExpr, IsTerm, IsFactor, IsLiteral, IsCond, IsConj, IsUnit, IsMeasure, IsItem, IsKey, IsName, IsWhere, IsGrouping, IsOrder, IsQuery, nested, bracketed}, specs.Spelled.{is_name, has_few_digits, value_is_spelled, expression_is_spelled, condition_is_spelled, where_is_spelled, measure_is_spelled, item_is_spelled, IsSpelledQuery}, proofs.Spelling.{token_is_spelled, tokens_spelled}}
 use Rattle.star_query.specs.declared.token.Keyword.TheVariants as k
 use Rattle.star_query.specs.declared.token.Sign.TheVariants as s
-use Rattle.star_query.specs.{Symbols.additive, Symbols.keyword, Symbols.sign, Symbols.name, Tokens.begins_with_letter, Tokens.is_word_byte, Derives.IsShortName, Derives.symbols_at, Derives.Means}
 use Rattle.star_schema.specs.Tables.{Value}
-use Rattle.star_query.specs.Tree.{Name, Expression, Condition, Test, Measure, Grouping, SortKey, Tree}
 use Rattle.star_query.specs.Grammar as w
-use Rattle.star_query.specs.Grammar.{Mark, Several, IsExpr, IsTerm, IsFactor, IsLiteral, IsCond, IsConj, IsUnit, IsMeasure, IsItem, IsKey, IsName, IsWhere, IsGrouping, IsOrder, IsQuery, nested, bracketed}
-use Rattle.star_query.specs.Spelled.{is_name, has_few_digits, value_is_spelled, expression_is_spelled, condition_is_spelled, where_is_spelled, measure_is_spelled, item_is_spelled, IsSpelledQuery}
-use Rattle.star_query.proofs.Spelling.{token_is_spelled, tokens_spelled}
 
 abbrev IsGood : Mark → Type 0
 IsGood m = (token_is_spelled m.symbol ≡ true) × IsShortName m.symbol
@@ -41,8 +34,7 @@ good_inside ms all = (good_parts ms (w.at (sign s.Close) ∷ []) all.1).0
 
 -- ---- names, numbers and literals
 
-name_good : (n : Name) → IsGood (w.at (name n.text n.place))
-    → is_name n.text ≡ true
+name_good : (n : Name) → IsGood (w.at (name n.text n.offset)) → is_name n.text ≡ true
 unfolding is_name
 name_good n good =
     let both = and_parts (begins_with_letter n.text) (list_all is_word_byte n.text) good.0 in
@@ -132,7 +124,7 @@ several_good Is test spells (w.more {ms} {ns} {xs} {x} before is) all =
     ∙ and_from _ _ (several_good Is test spells before parts.0)
     (and_from _ _ (spells ns x is parts.1.1) refl)
 
-measure_good : {place : ℕ} {ms : List Mark} {m : Measure Name} → IsMeasure place ms m → Good ms
+measure_good : {offset : ℕ} {ms : List Mark} {m : Measure Name} → IsMeasure offset ms m → Good ms
     → measure_is_spelled m ≡ true
 measure_good (w.folded {f} {ms} e) all = expr_good e (good_inside ms all.1)
 measure_good w.counting all = refl
@@ -140,7 +132,7 @@ measure_good w.counting all = refl
 item_good : Spells IsItem item_is_spelled
 item_good _ _ (w.plain {n}) all = name_good n all.0
 item_good _ _ (w.unnamed a) all = and_from _ _ (measure_good a all) refl
-item_good _ _ (w.renamed {place} {ms} {m} {n} a) all =
+item_good _ _ (w.renamed {offset} {ms} {m} {n} a) all =
     let parts = good_parts ms (w.at (keyword k.As) ∷ w.named [] n) all in
     and_from _ _ (measure_good a parts.0) (name_good n parts.1.1.0)
 

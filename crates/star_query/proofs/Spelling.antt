@@ -1,19 +1,12 @@
 -- The names, numbers and texts of tokens are spelled as the grammar wants.
-use Rattle.std.proofs.Common.{◌≡◌, subst, refl, ℕ, ◌+◌, ◌^◌, ◌<◌, ◌≤◌, Bool, true, ◌&&◌, List, [], ◌∷◌, length, Some, arith}
-use Rattle.std.specs.{Prelude.nat_lt, List.list_all, Char.to_ascii_lowercase, Int.is_in_range, Str.Parse.digits_value}
-use Rattle.std.proofs.lemmas.Bool.{and_from, and_parts, le-leb, lt-ltb, ltb-true, ltb-false, or_left, or_right}
-use Rattle.std.proofs.lemmas.Int.Digits.{digits_value-lt}
-use Rattle.star_common.specs.Numerals.{numeral_of}
-use Rattle.star_common.proofs.NumeralLemmas.{all_digits, below_power}
-use Rattle.star_query.specs.{declared.token.Word.Word, Symbols.Symbol, Symbols.Placed, Symbols.name, Symbols.number, Symbols.text, Symbols.symbols, Symbols.word_symbol, Symbols.lowered}
+use Rattle.std.{proofs.Common.{◌≡◌, subst, refl, ℕ, ◌+◌, ◌^◌, ◌<◌, ◌≤◌, Bool, true, ◌&&◌, List, [], ◌∷◌, length, Some, arith}, specs.Prelude.nat_lt, specs.List.list_all, specs.Char.to_ascii_lowercase, specs.Int.is_in_range, specs.Str.Parse.digits_value, proofs.lemmas.Bool.{and_from, and_parts, le-leb, lt-ltb, ltb-true, ltb-false, or_left, or_right}, proofs.lemmas.Int.Digits.digits_value-lt}
+use Rattle.star_common.{specs.Numerals.numeral_of, proofs.NumeralLemmas.{all_digits, below_power}}
+use Rattle.star_query.{specs.declared.token.Word.Word, specs.Symbols.{Symbol, Placed, name, number, text, symbols, word_symbol, lowered}, specs.Tokens.{is_letter, is_word_byte, begins_with_letter, IsToken, AreTokens, no_more, white_space, a_token}, specs.Spelled.is_printable_text, proofs.Counting.by_bool, proofs.Cuts.numeral_parts}
 use Rattle.star_query.specs.declared.token.Word.TheVariants as words
-use Rattle.star_query.specs.Tokens.{is_letter, is_word_byte, begins_with_letter, IsToken, AreTokens, no_more, white_space, a_token}
-use Rattle.star_query.specs.Spelled.{is_printable_text}
-use Rattle.star_query.proofs.{Counting.by_bool, Cuts.numeral_parts}
 
 -- as the token is spelled; a name's length is asked for elsewhere
 abbrev pub token_is_spelled : Symbol → Bool
-token_is_spelled (name word place) = begins_with_letter word && list_all is_word_byte word
+token_is_spelled (name word offset) = begins_with_letter word && list_all is_word_byte word
 token_is_spelled (number n) = nat_lt n (10 ^ 18)
 token_is_spelled (text bytes) = is_printable_text bytes
 token_is_spelled _ = true
@@ -47,10 +40,10 @@ lowered_begins : (word : List ℕ) → begins_with_letter word ≡ true
 lowered_begins [] e = cc
 lowered_begins (b ∷ bs) e = lower_passes is_letter small_letter b e
 
-reserved_spelled : (w : Word) (place : ℕ) → token_is_spelled (word_symbol w place) ≡ true
-reserved_spelled (words.Keyword k) place = refl
-reserved_spelled (words.Fold f) place = refl
-reserved_spelled words.Count place = refl
+reserved_spelled : (w : Word) (offset : ℕ) → token_is_spelled (word_symbol w offset) ≡ true
+reserved_spelled (words.Keyword k) offset = refl
+reserved_spelled (words.Fold f) offset = refl
+reserved_spelled words.Count offset = refl
 
 -- ---- tokens
 
@@ -62,17 +55,17 @@ few_digits bytes n e =
     subst (λ m. nat_lt m (10 ^ 18) ≡ true) value
     (lt-ltb _ _ (below_power (length bytes) 18 (digits_value 10 bytes) below few))
 
-token_spelled : (place : ℕ) (bytes : List ℕ) (x : Symbol) → IsToken place bytes x
+token_spelled : (offset : ℕ) (bytes : List ℕ) (x : Symbol) → IsToken offset bytes x
     → token_is_spelled x ≡ true
 unfolding is_printable_text
-token_spelled place bytes x it =
+token_spelled offset bytes x it =
     grind (arith, reserved_spelled, and_parts, and_from, lowered_begins, lowered_passes, few_digits)
 
-pub tokens_spelled : (end : ℕ) (left : List ℕ) (place : ℕ) (bytes : List ℕ) (ts : List Placed)
-    → AreTokens end left place bytes ts → list_all token_is_spelled (symbols ts) ≡ true
+pub tokens_spelled : (end : ℕ) (left : List ℕ) (offset : ℕ) (bytes : List ℕ) (ts : List Placed)
+    → AreTokens end left offset bytes ts → list_all token_is_spelled (symbols ts) ≡ true
 tokens_spelled end left _ _ _ no_more = refl
-tokens_spelled end left _ _ _ (white_space place b bytes tokens e rest) =
-    tokens_spelled end left (place + 1) bytes tokens rest
-tokens_spelled end left _ _ _ (a_token place word bytes x tokens is over rest) =
-    and_from _ _ (token_spelled place word x is)
-    (tokens_spelled end left (place + length word) bytes tokens rest)
+tokens_spelled end left _ _ _ (white_space offset b bytes tokens e rest) =
+    tokens_spelled end left (offset + 1) bytes tokens rest
+tokens_spelled end left _ _ _ (a_token offset word bytes x tokens is over rest) =
+    and_from _ _ (token_spelled offset word x is)
+    (tokens_spelled end left (offset + length word) bytes tokens rest)

@@ -1,12 +1,7 @@
 -- The parser's readers of single tokens.
-use Rattle.std.proofs.Common.{◌≡◌, ◌∙◌, ℕ, ◌+◌, ◌<◌, ◌≤◌, Bool, true, false, List, [], ◌∷◌, ◌++◌, Result, Ok, Err, length, map, drop, get_or, refl, sym, ap, subst, arith, append_assoc}
-use Rattle.std.proofs.lemmas.List.{drop_more, length-map}
-use Rattle.star_query.specs.declared.{parser.Parser.Parser, counts.Part.Part, counts.Counts.Counts, fault.ParseError.ParseError, fault.Fault.TheVariants.Unexpected, fault.Fault.TheVariants.TooDeep, fault.Fault.TheVariants.TooMany}
-use Rattle.star_query.specs.{Private.Lexed.symbol_of, Symbols.Symbol, Symbols.name, Symbols.number, Private.Cut.undoubled, Private.Cut.unquoted_after, Maxima.limit, Private.Machine.count_of_part, Private.Machine.bump}
-use Rattle.std.specs.Prelude.{◌==◌}
+use Rattle.std.{proofs.Common.{◌≡◌, ◌∙◌, ℕ, ◌+◌, ◌<◌, ◌≤◌, Bool, true, false, List, [], ◌∷◌, ◌++◌, Result, Ok, Err, length, map, drop, get_or, refl, sym, ap, subst, arith, append_assoc}, proofs.lemmas.List.{drop_more, length-map}, specs.Prelude.◌==◌}
+use Rattle.star_query.{specs.declared.parser.Parser.Parser, specs.declared.counts.Part.Part, specs.declared.counts.Counts.Counts, specs.declared.fault.ParseError.ParseError, specs.declared.fault.Fault.TheVariants.{Unexpected, TooDeep, TooMany}, specs.Private.Lexed.symbol_of, specs.Symbols.{Symbol, name, number}, specs.Private.Cut.{undoubled, unquoted_after}, specs.Maxima.limit, specs.Private.Machine.{count_of_part, bump}, specs.Private.Reads.{Spot, spot_of, Takes, IsName, IsNumber, NoName, NoNumber, IsBeyond, ReadsToken}, proofs.Counting.{one_too_many, one_allowed}}
 use Rattle.star_query.specs.declared.fault.ParseError.TheVariants as errors
-use Rattle.star_query.specs.Private.Reads.{Spot, spot_of, Takes, IsName, IsNumber, NoName, NoNumber, IsBeyond, ReadsToken}
-use Rattle.star_query.proofs.Counting.{one_too_many, one_allowed}
 
 beyond_token : (Is : List Symbol → Type 0) → (Is [] → ⊥)
     → (p : Part) (n : Counts) (left : List Symbol) → Is left → limit p ≤ count_of_part n p
@@ -68,10 +63,9 @@ token_counted symbol NoMemory Is IsNo apart p old mid new (Err (errors.Fault Too
     (counted_beyond p old mid c t.0, t.1 ∙ ap (λ s. s.left) c.1, is)
 
 pub token_not_counted : {A : Type 0} (symbol : A → Symbol) (NoMemory : Type 0)
-    (Is IsNo : List Symbol → Type 0) → (Is [] → ⊥)
-    → (p : Part) (old new : Spot) (e : ParseError) → Is old.left
-    → (e ≡ errors.Fault TooMany) × (limit p ≤ count_of_part old.counts p) × (new ≡ old)
-    → ReadsToken symbol NoMemory Is IsNo (p ∷ []) old new (Err e)
+    (Is IsNo : List Symbol → Type 0) → (Is [] → ⊥) → (p : Part) (old new : Spot) (e : ParseError)
+    → Is old.left → (e ≡ errors.Fault TooMany) × (limit p ≤ count_of_part old.counts p)
+    × (new ≡ old) → ReadsToken symbol NoMemory Is IsNo (p ∷ []) old new (Err e)
 token_not_counted symbol NoMemory Is IsNo there p old new e is c =
     subst (λ f. ReadsToken symbol NoMemory Is IsNo (p ∷ []) old new (Err f)) (sym c.0)
     (beyond_token Is there p old.counts old.left is c.1, ap (λ s. s.left) c.2, is)
@@ -83,4 +77,5 @@ f_length f old new x e = omega (arith, ap length e, length-map old f, length-map
 -- fewer tokens are left
 pub shorter : (old new : Parser) (x : Symbol) (ps : List Part)
     → Takes (spot_of old) (spot_of new) x ps → length new.left.now ≤ length old.left.now
-shorter old new x ps t = f_length (λ t. symbol_of t.kind t.place) old.left.now new.left.now x t.next
+shorter old new x ps t =
+    f_length (λ t. symbol_of t.kind t.offset) old.left.now new.left.now x t.next

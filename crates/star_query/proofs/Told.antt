@@ -1,9 +1,6 @@
 -- What a text means, or its first fault, by computing.
-use Rattle.std.proofs.Common.{◌≡◌, ℕ, ◌-◌, ◌≤◌, List, Result, Ok, Err, if◌then◌else◌, drop, length, arith, refl}
-use Rattle.std.specs.Prelude.{Bool, false, true, nat_lt}
-use Rattle.star_query.specs.{declared.fault.Fault.Fault, declared.fault.Fault.TheVariants.Unexpected, declared.fault.Fault.TheVariants.TooDeep, declared.fault.Fault.TheVariants.TooMany, declared.fault.QueryFault.QueryFault, Symbols.Placed, Symbols.Symbol, Symbols.symbols}
-use Rattle.star_query.specs.{Maxima.most_bytes, Private.Cut.cut_of, Private.Phrases.query_tree, Tree.Tree, Private.Machine.Verdict, Private.Machine.Whole, Private.Machine.Bad, Derives.IsFirstQueryFault, Derives.Means, Derives.StopsAt, Derives.first_place}
-use Rattle.star_query.proofs.{Cuts.stop_cuts, Parsing.means_tokens, Parsing.stopped, Parsing.stops_at, Verdicts.derives, Verdicts.verdict_of}
+use Rattle.std.{proofs.Common.{◌≡◌, ℕ, ◌-◌, ◌≤◌, List, Result, Ok, Err, if◌then◌else◌, drop, length, arith, refl}, specs.Prelude.{Bool, false, true, nat_lt}}
+use Rattle.star_query.{specs.declared.fault.Fault.Fault, specs.declared.fault.Fault.TheVariants.{Unexpected, TooDeep, TooMany}, specs.declared.fault.QueryFault.QueryFault, specs.Symbols.{Placed, Symbol, symbols}, specs.Maxima.most_bytes, specs.Private.Cut.cut_of, specs.Private.Phrases.query_tree, specs.Tree.Tree, specs.Private.Machine.{Verdict, Whole, Bad}, specs.Derives.{IsFirstQueryFault, Means, StopsAt, first_offset}, proofs.Cuts.stop_cuts, proofs.Parsing.{means_tokens, stopped, stops_at}, proofs.Verdicts.{derives, verdict_of}}
 use Rattle.star_query.specs.declared.fault.QueryFault.TheVariants as faults
 
 -- ---- what is said of a text
@@ -25,15 +22,15 @@ left_of tokens left = drop (length tokens - length left) tokens
 abbrev told_of : ℕ → List Placed → Verdict → Told
 told_of end tokens (Whole q) = means (query_tree q)
 told_of end tokens (Bad Unexpected left) =
-    fault (faults.Unexpected (first_place (left_of tokens left) end))
+    fault (faults.Unexpected (first_offset (left_of tokens left) end))
 told_of end tokens (Bad TooDeep left) = fault faults.TooDeep
 told_of end tokens (Bad TooMany left) = fault faults.TooMany
 
 abbrev told_cut : ℕ → Result (List Placed) QueryFault → Told
 told_cut end (Ok tokens) = told_of end tokens (verdict_of (symbols tokens))
-told_cut end (Err (faults.BadCharacter place)) = fault (faults.BadCharacter place)
-told_cut end (Err (faults.BadNumber place)) = fault (faults.BadNumber place)
-told_cut end (Err (faults.OpenText place)) = fault (faults.OpenText place)
+told_cut end (Err (faults.BadCharacter offset)) = fault (faults.BadCharacter offset)
+told_cut end (Err (faults.BadNumber offset)) = fault (faults.BadNumber offset)
+told_cut end (Err (faults.OpenText offset)) = fault (faults.OpenText offset)
 told_cut end (Err _) = nothing
 
 abbrev pub told : List ℕ → Told
@@ -59,12 +56,12 @@ module _ (bytes : List ℕ) (tokens : List Placed) (short : length bytes ≤ mos
 cut_holds : (bytes : List ℕ) → length bytes ≤ most_bytes → (c : Result (List Placed) QueryFault)
     → cut_of bytes ≡ c → Says bytes (told_cut (length bytes) c)
 cut_holds bytes short (Ok tokens) e = verdict_holds bytes tokens short e _ refl
-cut_holds bytes short (Err (faults.BadCharacter place)) e =
-    (short, (stop_cuts bytes (faults.BadCharacter place)).0 e)
-cut_holds bytes short (Err (faults.BadNumber place)) e =
-    (short, (stop_cuts bytes (faults.BadNumber place)).0 e)
-cut_holds bytes short (Err (faults.OpenText place)) e =
-    (short, (stop_cuts bytes (faults.OpenText place)).0 e)
+cut_holds bytes short (Err (faults.BadCharacter offset)) e =
+    (short, (stop_cuts bytes (faults.BadCharacter offset)).0 e)
+cut_holds bytes short (Err (faults.BadNumber offset)) e =
+    (short, (stop_cuts bytes (faults.BadNumber offset)).0 e)
+cut_holds bytes short (Err (faults.OpenText offset)) e =
+    (short, (stop_cuts bytes (faults.OpenText offset)).0 e)
 cut_holds bytes short (Err _) e = tt
 
 pub holds : (bytes : List ℕ) → Says bytes (told bytes)

@@ -1,14 +1,6 @@
 -- The machine's verdict is the grammar's.
-use Rattle.std.proofs.Common.{◌≡◌, ◌∙◌, ℕ, ◌+◌, ◌<◌, ◌≤◌, ◌⊎◌, inl, inr, Bool, true, false, ◌||◌, List, [], ◌∷◌, ◌++◌, Option, Some, None, cond, refl, sym, ap, subst, arith, append-nil}
-use Rattle.std.specs.{Prelude.nat_lt, List.AllByRecursion}
-use Rattle.std.proofs.lemmas.Bool.{ltb-true, ltb-false}
-use Rattle.star_query.specs.declared.{counts.Part.Part, counts.Counts.Counts, fault.Fault.Fault, fault.Fault.TheVariants.Unexpected, fault.Fault.TheVariants.TooDeep, fault.Fault.TheVariants.TooMany}
-use Rattle.star_query.specs.{Symbols.Symbol, Symbols.symbols, Tree.Tree, Private.Phrases.Query, Private.Phrases.query_marks, Private.Phrases.query_tree, Maxima.limit, Grammar.Mark, Grammar.IsQuery}
-use Rattle.star_query.specs.Derives.{count_begun, IsShortName, AreWithinLimits, symbols_at, Derives, BeginsQuery, NoQueryGoesOn, QueryFails, unexpected, too_deep, too_many, FirstQueryFault, Means}
-use Rattle.star_query.specs.Private.Machine.{ParserState, begin, Step, to, next_step, query_at_end, Verdict, Whole, Bad, count_of_part, plus, is_over, is_long, checked, verdict_after, ends, run, nothing_counted}
-use Rattle.star_query.proofs.{Cuts.one_cut, Accepting.Accepts, Accepting.query_goes, Passed.passed, Passed.step_moves, Phrased.is_query, Phrased.query_is, Phrased.phrased, Phrased.begun, Finishes.state_finishes, Finishes.end_passed}
-use Rattle.star_query.proofs.Counting.{not_below, number-plus, not_over, over_some, fits_after, short_name, not_long}
-use Rattle.std.proofs.lemmas.Grind.{common_steps}
+use Rattle.std.{proofs.Common.{◌≡◌, ◌∙◌, ℕ, ◌+◌, ◌<◌, ◌≤◌, ◌⊎◌, inl, inr, Bool, true, false, ◌||◌, List, [], ◌∷◌, ◌++◌, Option, Some, None, cond, refl, sym, ap, subst, arith, append-nil}, specs.Prelude.nat_lt, specs.List.AllByRecursion, proofs.lemmas.Bool.{ltb-true, ltb-false}, proofs.lemmas.Grind.common_steps}
+use Rattle.star_query.{specs.declared.counts.Part.Part, specs.declared.counts.Counts.Counts, specs.declared.fault.Fault.Fault, specs.declared.fault.Fault.TheVariants.{Unexpected, TooDeep, TooMany}, specs.Symbols.{Symbol, symbols}, specs.Tree.Tree, specs.Private.Phrases.{Query, query_marks, query_tree}, specs.Maxima.limit, specs.Grammar.{Mark, IsQuery}, specs.Derives.{count_begun, IsShortName, AreWithinLimits, symbols_at, Derives, BeginsQuery, NoQueryGoesOn, QueryFails, unexpected, too_deep, too_many, FirstQueryFault, Means}, specs.Private.Machine.{ParserState, begin, Step, to, next_step, query_at_end, Verdict, Whole, Bad, count_of_part, plus, is_over, is_long, checked, verdict_after, ends, run, nothing_counted}, proofs.Cuts.one_cut, proofs.Accepting.{Accepts, query_goes}, proofs.Passed.{passed, step_moves}, proofs.Phrased.{is_query, query_is, phrased, begun}, proofs.Finishes.{state_finishes, end_passed}, proofs.Counting.{not_below, number-plus, not_over, over_some, fits_after, short_name, not_long}}
 
 -- from one state to another through these marks
 abbrev pub Goes : ParserState → List Mark → ParserState → Type 0
@@ -269,7 +261,8 @@ dead front last n [] way e =
     no_end front (query_marks r.0) begin last r.0 (query_goes r.0) way (ap symbols_at r.1 ∙ same) e
 dead front last n (x ∷ left) way e =
     λ ms t more is same. let r = is_query is in
-    no_way front (query_marks r.0) begin last x more r.0 (query_goes r.0) way (ap symbols_at r.1 ∙ same) e
+    no_way front (query_marks r.0) begin last x more r.0 (query_goes r.0) way
+    (ap symbols_at r.1 ∙ same) e
 
 -- a query begins with what was read
 pub begins : (front : List Mark) (last : ParserState) → Goes begin front last → BeginsQuery front
@@ -278,7 +271,8 @@ begins front last way =
     record {
       more = r.1;
       tree = query_tree r.0;
-      query = subst (λ ms. IsQuery ms (query_tree r.0)) (r.2 ∙ goes_passed front begin last way r.1) (query_is r.0);
+      query = subst (λ ms. IsQuery ms (query_tree r.0)) (r.2 ∙ goes_passed front begin last way r.1)
+          (query_is r.0);
     }
 
 pub goes_one_more : (front : List Mark) (from last next : ParserState) (m : Mark)

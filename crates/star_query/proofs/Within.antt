@@ -1,12 +1,6 @@
 -- What the limits count of the marks of a query is counted of its tree.
-use Rattle.std.proofs.Common.{◌≡◌, ℕ, ◌+◌, ◌≤◌, List, [], ◌∷◌, ◌++◌, length, Option, refl, subst, sym, arith, if◌then◌else◌}
-use Rattle.std.proofs.{lemmas.List.Sums.sum_by-cons, lemmas.List.Sums.sum_by_push}
-use Rattle.std.specs.List.{sum_by}
-use Rattle.star_query.specs.Tree.{Name, Expression, Condition, Test, Measure, Grouping, SortKey, Tree}
-use Rattle.star_query.specs.Grammar.{Mark, Several, IsExpr, IsTerm, IsFactor, IsCond, IsConj, IsUnit, IsMeasure, IsItem, IsKey, IsName, IsWhere, IsGrouping, IsOrder, IsQuery, nested, bracketed}
-use Rattle.star_query.specs.Limits.{operands_of, measure_operands, item_operands, aggregates_in, comparisons_of, where_comparisons, IsQueryWithinLimits}
-use Rattle.star_query.specs.{declared.counts.Part.Part, declared.token.Additive.TheVariants.Plus, declared.token.Additive.TheVariants.Minus, Symbols.Symbol, Symbols.keyword, Symbols.additive, Symbols.sign, Maxima.limit, Derives.count_begun, Derives.Derives}
-use Rattle.star_query.proofs.Verdicts.{count_of-append}
+use Rattle.std.{proofs.Common.{◌≡◌, ℕ, ◌+◌, ◌≤◌, List, [], ◌∷◌, ◌++◌, length, Option, refl, subst, sym, arith, if◌then◌else◌}, proofs.lemmas.List.Sums.{sum_by-cons, sum_by_push}, specs.List.sum_by}
+use Rattle.star_query.{specs.Tree.{Name, Expression, Condition, Test, Measure, Grouping, SortKey, Tree}, specs.Grammar.{Mark, Several, IsExpr, IsTerm, IsFactor, IsCond, IsConj, IsUnit, IsMeasure, IsItem, IsKey, IsName, IsWhere, IsGrouping, IsOrder, IsQuery, nested, bracketed}, specs.Limits.{operands_of, measure_operands, item_operands, aggregates_in, comparisons_of, where_comparisons, IsQueryWithinLimits}, specs.declared.counts.Part.Part, specs.declared.token.Additive.TheVariants.{Plus, Minus}, specs.Symbols.{Symbol, keyword, additive, sign}, specs.Maxima.limit, specs.Derives.{count_begun, Derives}, proofs.Verdicts.count_of-append}
 use Rattle.star_query.specs.declared.counts.Part.TheVariants as part
 use Rattle.star_query.specs.declared.token.Keyword.TheVariants as k
 use Rattle.star_query.specs.declared.token.Sign.TheVariants as s
@@ -115,17 +109,17 @@ several_long Is p weighs {ms} {xs} is =
 
 -- ---- items, columns and keys
 
-measure_items : {place : ℕ} {ms : List Mark} {m : Measure Name} → IsMeasure place ms m
+measure_items : {offset : ℕ} {ms : List Mark} {m : Measure Name} → IsMeasure offset ms m
     → 1 ≤ count_begun part.Item ms
 measure_items (w.folded e) = omega arith
 measure_items w.counting = omega arith
 
-measure_aggregates : {place : ℕ} {ms : List Mark} {m : Measure Name} → IsMeasure place ms m
+measure_aggregates : {offset : ℕ} {ms : List Mark} {m : Measure Name} → IsMeasure offset ms m
     → 1 ≤ count_begun part.Aggregate ms
 measure_aggregates (w.folded e) = omega arith
 measure_aggregates w.counting = omega arith
 
-measure_numbers : {place : ℕ} {ms : List Mark} {m : Measure Name} → IsMeasure place ms m
+measure_numbers : {offset : ℕ} {ms : List Mark} {m : Measure Name} → IsMeasure offset ms m
     → measure_operands m ≤ count_begun part.Operand ms
 measure_numbers (w.folded {f} {ms} e) =
     omega (arith, bracketed_same part.Operand ms, expr_operands e)
@@ -134,19 +128,19 @@ measure_numbers w.counting = omega arith
 one_item : Weighs IsItem (λ i. 1) part.Item
 one_item _ _ w.plain = omega arith
 one_item _ _ (w.unnamed a) = measure_items a
-one_item _ _ (w.renamed {place} {ms} {m} {n} a) =
+one_item _ _ (w.renamed {offset} {ms} {m} {n} a) =
     omega (arith, parted part.Item ms (w.named [] n) (keyword k.As), measure_items a)
 
 item_aggregates : Weighs IsItem aggregates_in part.Aggregate
 item_aggregates _ _ w.plain = omega arith
 item_aggregates _ _ (w.unnamed a) = measure_aggregates a
-item_aggregates _ _ (w.renamed {place} {ms} {m} {n} a) =
+item_aggregates _ _ (w.renamed {offset} {ms} {m} {n} a) =
     omega (arith, parted part.Aggregate ms (w.named [] n) (keyword k.As), measure_aggregates a)
 
 item_numbers : Weighs IsItem item_operands part.Operand
 item_numbers _ _ w.plain = omega arith
 item_numbers _ _ (w.unnamed a) = measure_numbers a
-item_numbers _ _ (w.renamed {place} {ms} {m} {n} a) =
+item_numbers _ _ (w.renamed {offset} {ms} {m} {n} a) =
     omega (arith, parted part.Operand ms (w.named [] n) (keyword k.As), measure_numbers a)
 
 one_column : Weighs (IsName (part.GroupColumn ∷ [])) (λ n. 1) part.GroupColumn

@@ -1,22 +1,16 @@
 -- How texts are cut into tokens, and a query's first fault, by computation.
-use Rattle.std.proofs.Common.{ℕ, [], ◌∷◌, ◌++◌, Ok, Err, refl}
-use Rattle.std.specs.Prelude.{codes}
+use Rattle.std.{proofs.Common.{ℕ, [], ◌∷◌, ◌++◌, Ok, Err, refl}, specs.Prelude.codes}
 use Rattle.star_common.proofs.Tables.{Gives}
-use Rattle.star_query.specs.declared.{fault.Fault.TheVariants.Unexpected, fault.QueryFault.TheVariants.BadCharacter, fault.QueryFault.TheVariants.BadNumber, fault.QueryFault.TheVariants.OpenText, token.Additive.TheVariants.Plus, token.Additive.TheVariants.Minus, token.Keyword.TheVariants.Select, token.Keyword.TheVariants.From, token.Keyword.TheVariants.Rollup}
-use Rattle.star_query.specs.declared.token.Relation.TheVariants.{Equal, Unequal, Less, AtMost, Greater, AtLeast}
-use Rattle.star_query.specs.declared.token.Sign.TheVariants.{Comma, Open, Close, Star, Semicolon}
-use Rattle.star_query.specs.Symbols.{Symbol, Placed, spelling, keyword, count, additive, relation, sign, name, number, text}
-use Rattle.star_query.specs.{Private.Cut.cut_of, Private.Cut.cut_from, Private.Cut.reserved, Private.Cut.reserved_words, Derives.FirstQueryFault}
-use Rattle.star_query.proofs.Verdicts.{first_fault}
+use Rattle.star_query.{specs.declared.fault.Fault.TheVariants.Unexpected, specs.declared.fault.QueryFault.TheVariants.{BadCharacter, BadNumber, OpenText}, specs.declared.token.Additive.TheVariants.{Plus, Minus}, specs.declared.token.Keyword.TheVariants.{Select, From, Rollup}, specs.declared.token.Relation.TheVariants.{Equal, Unequal, Less, AtMost, Greater, AtLeast}, specs.declared.token.Sign.TheVariants.{Comma, Open, Close, Star, Semicolon}, specs.Symbols.{Symbol, Placed, spelling, keyword, count, additive, relation, sign, name, number, text}, specs.Private.Cut.{cut_of, cut_from, reserved, reserved_words}, specs.Derives.FirstQueryFault, proofs.Verdicts.first_fault}
 
 -- a symbol, and where its token begins
 abbrev at : ℕ → Symbol → Placed
-at place x = record { symbol = x; place = place }
+at offset x = record { symbol = x; offset = offset }
 
--- texts: a doubled quote closes nothing; from the space to the tilde, and what is next to them; an open
--- text is met at the end of all, a byte that may not be in it before. Numbers of 18 digits, and no letter
--- after one. Signs, the longest that fit. Words: white space is the space, the tab, the carriage return
--- and the line feed
+-- texts: a doubled quote closes nothing; from the space to the tilde, and what is next to them; an
+-- open text is met at the end of all, a byte that may not be in it before. Numbers of 18 digits,
+-- and no letter after one. Signs, the longest that fit. Words: white space is the space, the tab,
+-- the carriage return and the line feed
 tokens : Gives cut_of (
     (codes "'a' 'b'", Ok (at 0 (text (codes "a")) ∷ at 4 (text (codes "b")) ∷ []))
     ∷ (codes "'a''b'", Ok (at 0 (text (codes "a'b")) ∷ []))
@@ -56,7 +50,6 @@ unfolding cut_from reserved reserved_words spelling
 tokens = refl
 
 -- select count(*) from
-nothing_after_from : FirstQueryFault
-    (keyword Select ∷ count 7 ∷ sign Open ∷ sign Star ∷ sign Close ∷ keyword From ∷ []) Unexpected
-    []
+nothing_after_from : FirstQueryFault (keyword Select ∷ count 7 ∷ sign Open ∷ sign Star ∷ sign Close
+    ∷ keyword From ∷ []) Unexpected []
 nothing_after_from = first_fault _ Unexpected [] refl

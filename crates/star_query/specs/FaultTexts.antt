@@ -1,9 +1,8 @@
 -- The words of the faults of a query's text.
 use Rattle.std.specs.Prelude.{◌++◌, ℕ, List, codes, decimal}
-use Rattle.star_query.specs.declared.fault.QueryFault.{QueryFault}
-use Rattle.star_query.specs.declared.fault.QueryFault.TheVariants.{OutOfMemory, TooLong, BadCharacter, BadNumber, OpenText, Unexpected, TooDeep, TooMany}
+use Rattle.star_query.specs.declared.fault.QueryFault.{QueryFault, TheVariants.{OutOfMemory, TooLong, BadCharacter, BadNumber, OpenText, Unexpected, TooDeep, TooMany}}
 
--- the number and name of a fault, and its place
+-- the number and name of a fault, and its position
 unfoldable pub query_fault_text : QueryFault → List ℕ
 query_fault_text OutOfMemory = codes "1 OutOfMemory"
 query_fault_text TooLong = codes "20 TooLong"

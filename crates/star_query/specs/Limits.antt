@@ -1,9 +1,6 @@
 -- How much the tree of a query holds at most.
-use Rattle.std.specs.Prelude.{ℕ, ◌+◌, ◌≤◌, length, Option, Some, None}
-use Rattle.std.specs.List.{sum_by}
-use Rattle.star_query.specs.Maxima.{most_aggregates, most_columns, most_comparisons, most_items, most_keys, most_operands}
-use Rattle.star_query.specs.Leaves.{of_operands, of_tests}
-use Rattle.star_query.specs.Tree.{Expression, Condition, Test, Measure, fold, count, Item, plain, aggregate, Tree}
+use Rattle.std.specs.{Prelude.{ℕ, ◌+◌, ◌≤◌, length, Option, Some, None}, List.sum_by}
+use Rattle.star_query.specs.{Maxima.{most_aggregates, most_columns, most_comparisons, most_items, most_keys, most_operands}, Leaves.{of_operands, of_tests}, Tree.{Expression, Condition, Test, Measure, fold, count, Item, plain, aggregate, Tree}}
 
 -- the columns and numbers of an expression
 abbrev pub operands_of : {C : Type 0} → Expression C → ℕ

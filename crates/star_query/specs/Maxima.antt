@@ -1,7 +1,6 @@
 -- The most that a query may have (this project's profile of SQL): each limit is defined only here.
 use Rattle.std.specs.Prelude.{ℕ}
-use Rattle.star_query.specs.declared.counts.Part.{Part}
-use Rattle.star_query.specs.declared.counts.Part.TheVariants.{Item, Aggregate, GroupColumn, SortKey, Comparison, Operand}
+use Rattle.star_query.specs.declared.counts.Part.{Part, TheVariants.{Item, Aggregate, GroupColumn, SortKey, Comparison, Operand}}
 
 -- the bytes of a text
 abbrev pub most_bytes : ℕ

@@ -1,10 +1,8 @@
 -- How the names, numbers and texts of a query's tree are spelled.
-use Rattle.std.specs.Prelude.{◌≡◌, ℕ, ℤ, ◌^◌, unsigned_abs, Bool, true, ◌&&◌, nat_le, nat_lt, List, length, Option, Some, None}
-use Rattle.std.specs.List.{list_all}
+use Rattle.std.specs.{Prelude.{◌≡◌, ℕ, ℤ, ◌^◌, unsigned_abs, Bool, true, ◌&&◌, nat_le, nat_lt, List, length, Option, Some, None}, List.list_all}
 use Rattle.star_common.specs.Printable.{is_printable}
 use Rattle.star_schema.specs.Tables.{Value, Number, Text}
-use Rattle.star_query.specs.{Tokens.begins_with_letter, Tokens.is_word_byte, Maxima.most_digits, Maxima.most_name_bytes, Leaves.of_operands, Leaves.of_tests}
-use Rattle.star_query.specs.Tree.{Name, Expression, Comparison, compare, between, Test, pair, comparison, Condition, Measure, fold, count, Item, plain, aggregate, Tree}
+use Rattle.star_query.specs.{Tokens.{begins_with_letter, is_word_byte}, Maxima.{most_digits, most_name_bytes}, Leaves.{of_operands, of_tests}, Tree.{Name, Expression, Comparison, compare, between, Test, pair, comparison, Condition, Measure, fold, count, Item, plain, aggregate, Tree}}
 
 -- 1 to 64 letters, digits and _, and no digit first
 unfoldable pub is_name : List ℕ → Bool

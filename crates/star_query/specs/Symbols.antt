@@ -1,4 +1,4 @@
--- The symbols of a query: its tokens; those of names and functions keep their place.
+-- The symbols of a query: its tokens; those of names and functions keep their position.
 use Rattle.std.specs.{Prelude.ℕ, Prelude.List, Prelude.codes, Prelude.map, Char.to_ascii_lowercase}
 use Rattle.star_query.specs.{declared.token.Keyword.Keyword, declared.token.Fold.Fold, declared.token.Relation.Relation, declared.token.Sign.Sign, declared.token.Additive.Additive, declared.token.Word.Word}
 use Rattle.star_query.specs.declared.token.Keyword.TheVariants as k
@@ -7,19 +7,19 @@ use Rattle.star_query.specs.declared.token.Word.TheVariants as words
 
 pub data Symbol : Type 0 where
   keyword : Keyword → Symbol
-  fold : Fold → (place : ℕ) → Symbol
-  count : (place : ℕ) → Symbol
+  fold : Fold → (offset : ℕ) → Symbol
+  count : (offset : ℕ) → Symbol
   relation : Relation → Symbol
   sign : Sign → Symbol
   additive : Additive → Symbol
-  name : (text : List ℕ) → (place : ℕ) → Symbol
+  name : (text : List ℕ) → (offset : ℕ) → Symbol
   number : ℕ → Symbol
   text : List ℕ → Symbol
 
--- a symbol, and the place of its token
+-- a symbol, and the position of its token
 pub record Placed : Type 0 where
   pub symbol : Symbol
-  pub place : ℕ
+  pub offset : ℕ
 
 abbrev pub symbols : List Placed → List Symbol
 symbols tokens = map (λ t. t.symbol) tokens
@@ -47,9 +47,9 @@ spelling (words.Fold folds.Max) = codes "max"
 spelling words.Count = codes "count"
 
 abbrev pub word_symbol : Word → ℕ → Symbol
-word_symbol (words.Keyword w) place = keyword w
-word_symbol (words.Fold f) place = fold f place
-word_symbol words.Count place = count place
+word_symbol (words.Keyword w) offset = keyword w
+word_symbol (words.Fold f) offset = fold f offset
+word_symbol words.Count offset = count offset
 
 -- letters in lower case
 abbrev pub lowered : List ℕ → List ℕ

@@ -5,7 +5,7 @@ use Rattle.star_query.specs.{declared.token.Fold.Fold, declared.token.Relation.R
 
 pub record Name : Type 0 where
   pub text : List ℕ
-  pub place : ℕ
+  pub offset : ℕ
 
 -- over columns, by their names or resolved
 pub data Expression (C : Type 0) : Type 0 where
@@ -34,7 +34,7 @@ pub data Measure (C : Type 0) : Type 0 where
 
 pub record Aggregate : Type 0 where
   pub measure : Measure Name
-  pub place : ℕ
+  pub offset : ℕ
   pub name : Option Name
 
 pub data Item : Type 0 where

@@ -1,8 +1,7 @@
 -- The trees of the code, without their addresses in memory.
 use Rattle.std.specs.Prelude.{map, option_map}
-use Rattle.star_query.specs.declared.tree.{Name.Name, Literal.Literal, Expression.Expression, Comparison.Comparison, Comparison.TheVariants.Compare, Comparison.TheVariants.Between, Condition.Condition, Condition.TheVariants.Or', Condition.TheVariants.And', Condition.TheVariants.Not', Condition.TheVariants.Test, Measure.Measure, Measure.TheVariants.Fold, Measure.TheVariants.Count, Aggregate.Aggregate, Item.Item, Grouping.Grouping, SortKey.SortKey, Tree.Tree}
+use Rattle.star_query.specs.declared.tree.{Name.Name, Literal.Literal, Expression.Expression, Comparison.Comparison, Comparison.TheVariants.{Compare, Between}, Condition.Condition, Condition.TheVariants.{Or', And', Not', Test}, Measure.Measure, Measure.TheVariants.{Fold, Count}, Aggregate.Aggregate, Item.Item, Grouping.Grouping, SortKey.SortKey, Tree.Tree, Expression.TheVariants.{Column, Number, Add', Sub', Mul'}}
 use Rattle.star_query.specs.declared.tree.Literal.TheVariants as literals
-use Rattle.star_query.specs.declared.tree.Expression.TheVariants.{Column, Number, Add', Sub', Mul'}
 use Rattle.star_query.specs.declared.tree.Test as of_test
 use Rattle.star_query.specs.declared.tree.Test.TheVariants as tests
 use Rattle.star_query.specs.declared.tree.Item.TheVariants as items
@@ -10,7 +9,7 @@ use Rattle.star_schema.specs.Tables as tables
 use Rattle.star_query.specs.Tree as tree
 
 abbrev pub name_view : Name → tree.Name
-name_view n = record { text = n.text.items; place = n.place }
+name_view n = record { text = n.text.items; offset = n.offset }
 
 abbrev pub literal_view : Literal → tables.Value
 literal_view (literals.Number x) = tables.Number x
@@ -55,7 +54,7 @@ abbrev pub measure_view : Measure Name → tree.Measure tree.Name
 measure_view m = measure_by name_view m
 
 abbrev pub aggregate_view : Aggregate → tree.Aggregate
-aggregate_view a = record { measure = measure_view a.measure; place = a.place; name = option_map name_view a.name }
+aggregate_view a = record { measure = measure_view a.measure; offset = a.offset; name = option_map name_view a.name }
 
 abbrev pub item_view : Item → tree.Item
 item_view (items.Column n) = tree.plain (name_view n)

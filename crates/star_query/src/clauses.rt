@@ -1,8 +1,7 @@
 // The clauses of a query, from its tokens.
 
 ghost use Rattle.std.specs.Prelude.{◌≡◌, ◌≤◌, Some, length, IfSome, IfNone};
-ghost use Rattle.star_query.specs.Private.Reads.{spot_of, head_of};
-ghost use Rattle.star_query.specs.Private.Clauses.{function_symbol, NoFunction, ReadsFunction, ReadsFolded, ReadsCounted, ReadsMeasure, ReadsAlias, ReadsAggregate, ReadsItem, NoComma, ReadsFilter, ReadsHidden, ReadsGroups, ReadsGrouping, ReadsKey, ReadsKeys, ReadsEnd, ReadsQuery};
+ghost use Rattle.star_query.specs.Private.{Reads.{spot_of, head_of}, Clauses.{function_symbol, NoFunction, ReadsFunction, ReadsFolded, ReadsCounted, ReadsMeasure, ReadsAlias, ReadsAggregate, ReadsItem, NoComma, ReadsFilter, ReadsHidden, ReadsGroups, ReadsGrouping, ReadsKey, ReadsKeys, ReadsEnd, ReadsQuery}};
 
 use crate::counts::Part;
 use crate::fault::{Fault, ParseError};
@@ -12,11 +11,11 @@ use crate::token::{Fold, Keyword, Kind, Sign};
 use crate::tree::{Aggregate, Condition, Grouping, Item, Measure, Name, SortKey, Test, Tree};
 use star_schema::{Direction, Shape};
 
-// A function whose word was read: what it folds by, if it isn't `count`, and the place of its word.
+// A function whose word was read: what it folds by, if it isn't `count`, and the position of its word.
 #[derive(Clone, Copy)]
 pub(crate) struct Function {
     pub(crate) fold: Option<Fold>,
-    pub(crate) place: usize,
+    pub(crate) offset: usize,
 }
 
 impl<'a> Parser<'a> {
@@ -40,13 +39,13 @@ impl<'a> Parser<'a> {
         ensures other { IfNone result (NoFunction (spot_of self.now).left) }
     {
         let token = self.left.first()?;
-        let place = token.place;
+        let offset = token.offset;
         match token.kind {
             Kind::Fold(fold) => Some(Function {
                 fold: Some(fold),
-                place,
+                offset,
             }),
-            Kind::Count => Some(Function { fold: None, place }),
+            Kind::Count => Some(Function { fold: None, offset }),
             _ => None,
         }
     }
@@ -105,7 +104,7 @@ impl<'a> Parser<'a> {
         let name = self.alias()?;
         Ok(Aggregate {
             measure,
-            place: function.place,
+            offset: function.offset,
             name,
         })
     }

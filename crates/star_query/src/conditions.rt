@@ -1,9 +1,7 @@
 // The condition of WHERE, from its tokens.
 
 ghost use Rattle.std.specs.Prelude.{◌≡◌, ◌≤◌, pos, neg_ℤ, length, OnOk, IfOk};
-ghost use Rattle.star_query.specs.Private.Reads.{spot_of, No, ReadsLit, ReadsNamed, ReadsUnit, ReadsConj, ReadsCond, NoAnd, NoLogic};
-ghost use Rattle.star_query.specs.Private.Machine.{unit_wanted, unit_named, equal_had, lit_wanted, low, compared, behind_relation};
-ghost use Rattle.star_query.specs.{Maxima.most_nestings, Views.name_view, Views.condition_view, Views.literal_view};
+ghost use Rattle.star_query.specs.{Private.Reads.{spot_of, No, ReadsLit, ReadsNamed, ReadsUnit, ReadsConj, ReadsCond, NoAnd, NoLogic}, Private.Machine.{unit_wanted, unit_named, equal_had, lit_wanted, low, compared, behind_relation}, Maxima.most_nestings, Views.{name_view, condition_view, literal_view}};
 ghost use Rattle.star_schema.specs.Tables.{Number};
 ghost use Rattle.star_query.specs.Symbols as symbols;
 ghost use Rattle.star_query.specs.Tree as tree;

@@ -1,8 +1,7 @@
 // What an aggregate folds, from its tokens.
 
 ghost use Rattle.std.specs.Prelude.{◌≡◌, ◌≤◌, pos, neg_ℤ, length, OnOk, IfOk};
-ghost use Rattle.star_query.specs.Private.Reads.{spot_of, No, ReadsOperand, ReadsFactor, ReadsTerm, ReadsExpr, NoTimes, NoOperator};
-ghost use Rattle.star_query.specs.{Maxima.most_nestings, Views.expression_view, Private.Phrases.sum_or_difference};
+ghost use Rattle.star_query.specs.{Private.Reads.{spot_of, No, ReadsOperand, ReadsFactor, ReadsTerm, ReadsExpr, NoTimes, NoOperator}, Maxima.most_nestings, Views.expression_view, Private.Phrases.sum_or_difference};
 ghost use Rattle.star_query.specs.Symbols as symbols;
 ghost use Rattle.star_query.specs.Tree as tree;
 

@@ -7,8 +7,8 @@ ghost use Rattle.star_query.specs.declared.fault.ParseError.TheVariants as error
 use std::alloc::{AllocError, AllocFailed};
 use std::fmt;
 
-/// The first fault of a text. A place counts bytes from 0, and the end of the text has the text's
-/// length as its place.
+/// The first fault of a text. A position counts bytes from 0, and the end of the text has the text's
+/// length as its position.
 #[derive(Clone, Copy, Debug, PartialEq, Eq)]
 pub enum QueryFault {
     /// Memory was refused. It may come before any other fault.

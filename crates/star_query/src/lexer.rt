@@ -1,7 +1,6 @@
 // A text cut into tokens.
 
-ghost use Rattle.std.specs.Prelude.{◌≡◌, ◌≤◌, ◌+◌, length, IfOk, Ok, Some, None, false, true, IfErr, option_to_list, map, Err};
-ghost use Rattle.std.specs.{List.prefix_len, List.take_while, Char.is_ascii_digit};
+ghost use Rattle.std.specs.{Prelude.{◌≡◌, ◌≤◌, ◌+◌, length, IfOk, Ok, Some, None, false, true, IfErr, option_to_list, map, Err}, List.{prefix_len, take_while}, Char.is_ascii_digit};
 ghost use Rattle.star_common.specs.WhiteSpace as white;
 ghost use Rattle.star_query.specs.Private.Cut as spec;
 ghost use Rattle.star_query.specs.Tokens as words;
@@ -14,7 +13,7 @@ use star_common::{is_printable, numeral_value};
 use star_schema::Named;
 use std::alloc::Global;
 
-// What begins at a place.
+// What begins at a position.
 #[derive(Clone, Copy)]
 enum Piece<'a> {
     Blank,
@@ -123,8 +122,8 @@ fn end_of_text(text: &[u8]) -> Ending
 }
 
 // A sign, the longest that fits, and how many bytes it has.
-fn sign<'a>(byte: u8, next: Option<u8>, place: usize) -> Piece<'a>
-    ensures { lexed.IsPiece place (spec.sign_piece place byte next)
+fn sign<'a>(byte: u8, next: Option<u8>, offset: usize) -> Piece<'a>
+    ensures { lexed.IsPiece offset (spec.sign_piece offset byte next)
         (1 + length (option_to_list next)) result }
 {
     match byte {
@@ -145,7 +144,7 @@ fn sign<'a>(byte: u8, next: Option<u8>, place: usize) -> Piece<'a>
             Some(b'=') => Piece::Token(Kind::Relation(Relation::AtLeast), 2),
             _ => Piece::Token(Kind::Relation(Relation::Greater), 1),
         },
-        _ => Piece::Bad(QueryFault::BadCharacter { at: place }),
+        _ => Piece::Bad(QueryFault::BadCharacter { at: offset }),
     }
 }
 
@@ -160,9 +159,9 @@ fn begins_with_letter(text: &[u8]) -> bool
 
 // The longest run of digits as a number.
 #[tactic(auto, using(crate::proofs::Lexing::number_some))]
-fn number<'a>(text: &'a [u8], place: usize) -> Piece<'a>
+fn number<'a>(text: &'a [u8], offset: usize) -> Piece<'a>
     requires { lexed.begins_with_digit text.now ≡ true }
-    ensures { lexed.IsPiece place (spec.number_piece place text.now) (length text.now) result }
+    ensures { lexed.IsPiece offset (spec.number_piece offset text.now) (length text.now) result }
 {
     let width = digits_width(text);
     let (digits, rest) = text.split_at(width);
@@ -170,15 +169,15 @@ fn number<'a>(text: &'a [u8], place: usize) -> Piece<'a>
         Some(value) if width <= MAX_DIGITS && !begins_with_letter(rest) => {
             Piece::Token(Kind::Number(Digits { value }), width)
         }
-        _ => Piece::Bad(QueryFault::BadNumber { at: place }),
+        _ => Piece::Bad(QueryFault::BadNumber { at: offset }),
     }
 }
 
 // The longest run of letters, digits and `_`: a reserved word or a name.
 #[tactic(auto, using(crate::proofs::Lexing::word_some))]
-fn word<'a>(text: &'a [u8], place: usize) -> Piece<'a>
+fn word<'a>(text: &'a [u8], offset: usize) -> Piece<'a>
     requires { words.begins_with_letter text.now ≡ true }
-    ensures { lexed.IsPiece place (spec.word_piece place text.now) (length text.now) result }
+    ensures { lexed.IsPiece offset (spec.word_piece offset text.now) (length text.now) result }
 {
     let width = word_width(text);
     let (word, _) = text.split_at(width);
@@ -192,9 +191,9 @@ fn word<'a>(text: &'a [u8], place: usize) -> Piece<'a>
 }
 
 // A text, after its opening quote.
-fn quoted<'a>(text: &'a [u8], place: usize) -> Piece<'a>
-    requires { place + 1 + length text.now ≤ usize.MAX }
-    ensures { lexed.IsPiece place (spec.text_piece place text.now) (1 + length text.now) result }
+fn quoted<'a>(text: &'a [u8], offset: usize) -> Piece<'a>
+    requires { offset + 1 + length text.now ≤ usize.MAX }
+    ensures { lexed.IsPiece offset (spec.text_piece offset text.now) (1 + length text.now) result }
 {
     match end_of_text(text) {
         Ending::Closed(end) => {
@@ -202,16 +201,16 @@ fn quoted<'a>(text: &'a [u8], place: usize) -> Piece<'a>
             Piece::Token(Kind::Text(inside), end + 1)
         }
         Ending::Stopped(end) => Piece::Bad(QueryFault::BadCharacter {
-            at: place + 1 + end,
+            at: offset + 1 + end,
         }),
-        Ending::Open => Piece::Bad(QueryFault::OpenText { at: place }),
+        Ending::Open => Piece::Bad(QueryFault::OpenText { at: offset }),
     }
 }
 
 // What begins with the first of these bytes.
-fn next_piece<'a>(text: &'a [u8], place: usize) -> Piece<'a>
-    requires { place + length text.now ≤ usize.MAX }
-    ensures { lexed.IsPiece place (lexed.front_piece place text.now) (length text.now) result }
+fn next_piece<'a>(text: &'a [u8], offset: usize) -> Piece<'a>
+    requires { offset + length text.now ≤ usize.MAX }
+    ensures { lexed.IsPiece offset (lexed.front_piece offset text.now) (length text.now) result }
 {
     let Some((first, rest)) = text.split_first() else {
         return Piece::Blank;
@@ -219,13 +218,13 @@ fn next_piece<'a>(text: &'a [u8], place: usize) -> Piece<'a>
     if is_blank(*first) {
         Piece::Blank
     } else if is_letter(*first) {
-        word(text, place)
+        word(text, offset)
     } else if first.is_ascii_digit() {
-        number(text, place)
+        number(text, offset)
     } else if *first == b'\'' {
-        quoted(rest, place)
+        quoted(rest, offset)
     } else {
-        sign(*first, rest.first().copied(), place)
+        sign(*first, rest.first().copied(), offset)
     }
 }
 
@@ -237,14 +236,14 @@ pub(crate) fn tokens_of(alloc: Global, text: &[u8]) -> Result<Vec<Token<'_>>, Qu
     ensures lexical { IfErr result lexed.IsLexical }
 {
     let mut tokens = Vec::new(alloc);
-    let mut place = 0;
-    while place < text.len() {
-        let (_, left) = text.split_at(place);
-        match next_piece(left, place) {
-            Piece::Blank => place += 1,
+    let mut offset = 0;
+    while offset < text.len() {
+        let (_, left) = text.split_at(offset);
+        match next_piece(left, offset) {
+            Piece::Blank => offset += 1,
             Piece::Token(kind, width) => {
-                tokens.push(Token { kind, place })?;
-                place += width;
+                tokens.push(Token { kind, offset })?;
+                offset += width;
             }
             Piece::Bad(fault) => return Err(fault),
         }

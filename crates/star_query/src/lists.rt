@@ -1,9 +1,7 @@
 // Lists with commas: items, tables, group columns and sort keys.
 
 ghost use Rattle.std.specs.{Prelude.◌≤◌, Prelude.Result, Prelude.length, Prelude.OnOk, declared.alloc.Global.Global, declared.vec.Vec.Vec};
-ghost use Rattle.star_query.specs.Private.Clauses.{NoComma, ReadsColumn, ReadsColumns, ReadsItem, ReadsItems, ReadsKey, ReadsKeyList, ReadsTable, ReadsTables};
-ghost use Rattle.star_query.specs.Private.Lists.{IsListOf, columns_listed, items_listed, keys_listed, tables_listed};
-ghost use Rattle.star_query.specs.{declared.fault.ParseError.ParseError, Private.Reads.Spot, Private.Reads.spot_of};
+ghost use Rattle.star_query.specs.{Private.Clauses.{NoComma, ReadsColumn, ReadsColumns, ReadsItem, ReadsItems, ReadsKey, ReadsKeyList, ReadsTable, ReadsTables}, Private.Lists.{IsListOf, columns_listed, items_listed, keys_listed, tables_listed}, declared.fault.ParseError.ParseError, Private.Reads.{Spot, spot_of}};
 
 use crate::counts::Part;
 use crate::fault::ParseError;

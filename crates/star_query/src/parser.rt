@@ -1,10 +1,8 @@
 // A query from its tokens, by recursive descent: the next token, the counts, names, numbers and
 // texts.
 
-ghost use Rattle.std.specs.Prelude.{◌≡◌, ◌≤◌, Some, [], ◌∷◌, ◌-◌, length, map, drop, option_to_list, IfErr, IfOk, IfSome, IfNone};
-ghost use Rattle.std.specs.{Bool.OnTrue, Bool.OnFalse};
-ghost use Rattle.star_query.specs.Private.Reads.{spot_of, head_of, next_kind, Takes, No, Expects, Counted, NoName, NoNumber, IsName, IsNumber, ReadsName, ReadsNumber, ReadsText, Nests};
-ghost use Rattle.star_query.specs.{Views.tree_view, Private.Lexed.placed, Derives.Derives, Derives.first_place, Private.TokenFaults.IsTokenFault, Private.TokenFaults.IsTreeRead, Private.TokenFaults.query_fault};
+ghost use Rattle.std.specs.{Prelude.{◌≡◌, ◌≤◌, Some, [], ◌∷◌, ◌-◌, length, map, drop, option_to_list, IfErr, IfOk, IfSome, IfNone}, Bool.{OnTrue, OnFalse}};
+ghost use Rattle.star_query.specs.{Private.Reads.{spot_of, head_of, next_kind, Takes, No, Expects, Counted, NoName, NoNumber, IsName, IsNumber, ReadsName, ReadsNumber, ReadsText, Nests}, Views.tree_view, Private.Lexed.placed, Derives.{Derives, first_offset}, Private.TokenFaults.{IsTokenFault, IsTreeRead, query_fault}};
 ghost use Rattle.star_query.specs.Symbols as symbols;
 ghost use Rattle.star_query.specs.Tree as tree;
 ghost use Rattle.star_query.specs.Private.Cut as spec;
@@ -41,8 +39,7 @@ impl<'a> Parser<'a> {
     }
 
     fn is_next<T: Terminal>(&self, wanted: T) -> bool
-        ensures found { OnTrue result (head_of (spot_of self.now).left
-            ≡ Some (T.symbol wanted)) }
+        ensures found { OnTrue result (head_of (spot_of self.now).left ≡ Some (T.symbol wanted)) }
         ensures other { OnFalse result (No (T.symbol wanted) (spot_of self.now)) }
     {
         self.peek_terminal() == Some(wanted)
@@ -126,9 +123,9 @@ impl<'a> Parser<'a> {
             return Err(ParseError::Fault(Fault::TooMany));
         }
         let text = word.to_ascii_lowercase(self.alloc)?;
-        let place = self.left[0].place;
+        let offset = self.left[0].offset;
         self.left = &self.left[1..];
-        Ok(Name { text, place })
+        Ok(Name { text, offset })
     }
 
     // A number.
@@ -244,13 +241,13 @@ pub(crate) fn parse_tokens(
         Ok(tree) => Ok(tree),
         Err(error) => {
             let passed = count_passed(tokens, parser.left);
-            let at = place_at(tokens, passed, end);
+            let at = offset_at(tokens, passed, end);
             Err(fault_of(error, at))
         }
     }
 }
 
-// A fault, with its place if it has one.
+// A fault, with its position if it has one.
 fn fault_of(error: ParseError, at: usize) -> QueryFault
     ensures { result ≡ query_fault error at }
 {
@@ -268,12 +265,12 @@ fn count_passed(tokens: &[Token<'_>], left: &[Token<'_>]) -> usize
     tokens.len().saturating_sub(left.len())
 }
 
-// The place at which the tokens after the first `passed` begin.
-fn place_at(tokens: &[Token<'_>], passed: usize, end: usize) -> usize
-    ensures { result ≡ first_place (drop passed (map placed tokens.now)) end }
+// The position at which the tokens after the first `passed` begin.
+fn offset_at(tokens: &[Token<'_>], passed: usize, end: usize) -> usize
+    ensures { result ≡ first_offset (drop passed (map placed tokens.now)) end }
 {
     if passed < tokens.len() {
-        tokens[passed].place
+        tokens[passed].offset
     } else {
         end
     }

@@ -16,10 +16,7 @@ pub struct Query {
 }
 
 impl Model for Query {
-    ghost use Rattle.star_query.specs.declared.tree.Tree.{Tree};
-    ghost use Rattle.star_query.specs.contracts.tree.Tree.{the_row};
-    ghost use Rattle.star_query.specs.Views.{tree_view};
-    ghost use Rattle.star_query.specs.Meant.{IsMeant};
+    ghost use Rattle.star_query.specs.{declared.tree.Tree.Tree, contracts.tree.Tree.the_row, Views.tree_view, Meant.IsMeant};
 
     ghost Value = { Tree };
 
@@ -32,11 +29,8 @@ impl Model for Query {
 
 impl Query {
     ghost use Rattle.std.specs.Prelude.{◌≡◌, IfOk, IfErr, MatchResult};
-    ghost use Rattle.star_query.specs.declared.fault.QueryFault.TheVariants.{OutOfMemory};
+    ghost use Rattle.star_query.specs.{declared.fault.QueryFault.TheVariants.OutOfMemory, Derives.{Means, IsFirstQueryFault}, Meant.IsMeant, Views.tree_view};
     ghost use Rattle.star_query.specs.Tree as spec;
-    ghost use Rattle.star_query.specs.Derives.{Means, IsFirstQueryFault};
-    ghost use Rattle.star_query.specs.Meant.{IsMeant};
-    ghost use Rattle.star_query.specs.Views.{tree_view};
 
     /// The query that a text is, or the first fault: of its length, then of its tokens from the
     /// left, then of the grammar and its limits at the first token that breaks one. Out of memory

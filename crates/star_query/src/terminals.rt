@@ -1,9 +1,7 @@
 // Tokens without a value: signs and reserved words.
 
-ghost use Rattle.std.specs.Prelude.{◌≡◌, IfSome, IfNone};
-ghost use Rattle.std.proofs.Common.{rules};
-ghost use Rattle.star_query.specs.Symbols.{Symbol, keyword, relation, sign, additive};
-ghost use Rattle.star_query.specs.{Private.Lexed.placed, Private.Terminals.IsTerminal};
+ghost use Rattle.std.{specs.Prelude.{◌≡◌, IfSome, IfNone}, proofs.Common.rules};
+ghost use Rattle.star_query.specs.{Symbols.{Symbol, keyword, relation, sign, additive}, Private.Lexed.placed, Private.Terminals.IsTerminal};
 
 use crate::token::{Additive, Keyword, Kind, Relation, Sign, Token};
 

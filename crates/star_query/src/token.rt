@@ -143,9 +143,9 @@ pub(crate) enum Kind<'a> {
     Text(&'a [u8]),
 }
 
-/// A token, and the place of its first byte.
+/// A token, and the position of its first byte.
 #[derive(Clone, Copy)]
 pub(crate) struct Token<'a> {
     pub(crate) kind: Kind<'a>,
-    pub(crate) place: usize,
+    pub(crate) offset: usize,
 }

@@ -4,11 +4,11 @@
 use crate::token::{Fold, Relation};
 use star_schema::{Direction, Shape};
 
-/// A name in lower case, and its place.
+/// A name in lower case, and its position.
 #[derive(Drop)]
 pub struct Name {
     pub text: Vec<u8>,
-    pub place: usize,
+    pub offset: usize,
 }
 
 /// What a column is compared with.
@@ -63,10 +63,10 @@ pub enum Measure<C> {
     Count,
 }
 
-/// An aggregate, with the place of its function's word and its name, if it is given one.
+/// An aggregate, with the position of its function's word and its name, if it is given one.
 pub struct Aggregate {
     pub measure: Measure<Name>,
-    pub place: usize,
+    pub offset: usize,
     pub name: Option<Name>,
 }
 
@@ -74,7 +74,7 @@ impl Drop for Aggregate {
     fn drop(self) {
         let Self {
             measure,
-            place,
+            offset,
             name,
         } = self;
     }

@@ -1,13 +1,8 @@
 -- The product of some tables: in which order they stand, and what joins leave of it.
-use Rattle.std.proofs.Common.{◌≡◌, ◌∙◌, Bool, true, false, true≢false, ◌&&◌, ◌||◌, not, if◌then◌else◌, List, [], ◌∷◌, ◌++◌, Option, Some, None, refl, sym, ap, subst, cond, map, arith}
-use Rattle.std.specs.{Prelude.filter, List.AllByRecursion, List.flat_map, List.list_all, List.list_any, List.Sorted.IsPermutation, Ordering.is_eq}
-use Rattle.std.proofs.lemmas.{Bool.and_parts, Bool.or_parts, Bool.not-true, List.Elements.filter-append, List.Sorted.IsPermutation-trans}
-use Rattle.star_schema.specs.{declared.table.TableId.TableId, declared.table.TableId.TheVariants.Lineorder, Order.value_cmp, Schema.is_table, Schema.key_of, Schema.references, Schema.table_of}
-use Rattle.star_schema.proofs.{KeyColumns.foreign_key, Same.table_same, Same.table_itself}
-use Rattle.star_plan.specs.{declared.tree.Join.Join, Joins.is_foreign, Joins.is_lone_key, Joins.refers, Sound.are_distinct}
-use Rattle.star_plan.specs.Meaning.{Joined, Row, Tables, joined_rows, matches, only_row, partners, joined_value, with_row}
-use Rattle.star_query_meaning.specs.Rows.{product, with_choices}
-use Rattle.star_query_meaning.proofs.Reorderings.{crossed, each_reordered, reordered}
+use Rattle.std.{proofs.Common.{◌≡◌, ◌∙◌, Bool, true, false, true≢false, ◌&&◌, ◌||◌, not, if◌then◌else◌, List, [], ◌∷◌, ◌++◌, Option, Some, None, refl, sym, ap, subst, cond, map, arith}, specs.Prelude.filter, specs.List.{AllByRecursion, flat_map, list_all, list_any}, specs.List.Sorted.IsPermutation, specs.Ordering.is_eq, proofs.lemmas.Bool.{and_parts, or_parts, not-true}, proofs.lemmas.List.Elements.filter-append, proofs.lemmas.List.Sorted.IsPermutation-trans}
+use Rattle.star_schema.{specs.declared.table.TableId.TableId, specs.declared.table.TableId.TheVariants.Lineorder, specs.Order.value_cmp, specs.Schema.{is_table, key_of, references, table_of}, proofs.KeyColumns.foreign_key, proofs.Same.{table_same, table_itself}}
+use Rattle.star_plan.specs.{declared.tree.Join.Join, Joins.{is_foreign, is_lone_key, refers}, Sound.are_distinct, Meaning.{Joined, Row, Tables, joined_rows, matches, only_row, partners, joined_value, with_row}}
+use Rattle.star_query_meaning.{specs.Rows.{product, with_choices}, proofs.Reorderings.{crossed, each_reordered, reordered}}
 
 -- ---- tables
 

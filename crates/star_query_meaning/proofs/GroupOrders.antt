@@ -1,9 +1,6 @@
 -- Groups and their aggregates don't hang on the order of the rows.
-use Rattle.std.proofs.Common.{◌≡◌, ◌∙◌, ℕ, ◌+◌, List, [], ◌∷◌, Option, Some, None, refl, sym, ap, arith, inl, inr}
-use Rattle.std.proofs.{lemmas.Int.ints, lemmas.Int.clamps, lemmas.List.Sorted.IsPermutation-map, lemmas.List.Sorted.IsPermutation-sym, lemmas.List.Sorted.Contains-permutation, lemmas.List.Sorted.length_permutation}
-use Rattle.std.specs.{Prelude.ℤ, Prelude.pos, Prelude.◌+ℤ◌, Prelude.slice_index_or, Int.int_min, Int.int_max, List.Sorted.IsPermutation, declared.cmp.Ordering.Ordering}
-use Rattle.star_schema.specs.Groups.{Entry, IsGroup, belongs, members, joined_with, joined, aggregate, numbers_for, totals_from, totals_of, GroupRow, AreGroups}
-use Rattle.star_schema.specs.{declared.group.Shape.Shape, declared.group.Aggregate.Aggregate, declared.group.Aggregate.TheVariants.Sum, declared.group.Aggregate.TheVariants.Count, declared.group.Aggregate.TheVariants.Min, declared.group.Aggregate.TheVariants.Max}
+use Rattle.std.{proofs.Common.{◌≡◌, ◌∙◌, ℕ, ◌+◌, List, [], ◌∷◌, Option, Some, None, refl, sym, ap, arith, inl, inr}, proofs.lemmas.Int.{ints, clamps}, proofs.lemmas.List.Sorted.{IsPermutation-map, IsPermutation-sym, Contains-permutation, length_permutation}, specs.Prelude.{ℤ, pos, ◌+ℤ◌, slice_index_or}, specs.Int.{int_min, int_max}, specs.List.Sorted.IsPermutation, specs.declared.cmp.Ordering.Ordering}
+use Rattle.star_schema.specs.{Groups.{Entry, IsGroup, belongs, members, joined_with, joined, aggregate, numbers_for, totals_from, totals_of, GroupRow, AreGroups}, declared.group.Shape.Shape, declared.group.Aggregate.Aggregate, declared.group.Aggregate.TheVariants.{Sum, Count, Min, Max}}
 use Rattle.star_query_meaning.proofs.Reorderings.{reordered, filter_reordered}
 
 module _ (f : ℤ → ℤ → ℤ) (comm : (x y : ℤ) → f x y ≡ f y x)
@@ -31,13 +28,13 @@ aggregate_reordered Max xs ys h = joined_reordered int_max (λ x y. omega (arith
     (λ x y z. omega (arith, ints, clamps)) xs ys h
 
 module _ {K : Type 0} where
-  totals_from_reordered : (gs : List Aggregate) (place : ℕ) (es fs : List (Entry K))
-      → IsPermutation es fs → totals_from gs place es ≡ totals_from gs place fs
-  totals_from_reordered [] place es fs h = refl
-  totals_from_reordered (g ∷ gs) place es fs h =
-      λ i. aggregate_reordered g (numbers_for place es) (numbers_for place fs)
-      (IsPermutation-map (λ e. slice_index_or e.values place (pos 0)) es fs h) i
-      ∷ totals_from_reordered gs (place + 1) es fs h i
+  totals_from_reordered : (gs : List Aggregate) (index : ℕ) (es fs : List (Entry K))
+      → IsPermutation es fs → totals_from gs index es ≡ totals_from gs index fs
+  totals_from_reordered [] index es fs h = refl
+  totals_from_reordered (g ∷ gs) index es fs h =
+      λ i. aggregate_reordered g (numbers_for index es) (numbers_for index fs)
+      (IsPermutation-map (λ e. slice_index_or e.values index (pos 0)) es fs h) i
+      ∷ totals_from_reordered gs (index + 1) es fs h i
 
   pub totals_reordered : (gs : List Aggregate) (es fs : List (Entry K)) → IsPermutation es fs
       → totals_of gs es ≡ totals_of gs fs

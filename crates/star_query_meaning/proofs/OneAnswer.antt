@@ -1,12 +1,10 @@
 -- A query has one answer over given tables, and so one printed text.
 use Rattle.std.proofs.Common.{◌≡◌, ◌∙◌, ℕ, List, ap, map, subst, sym}
 use Rattle.star_schema.specs.{Database.Database, Database.rows_in, Order.row_cmp, Order.value_cmp}
-use Rattle.star_query.specs.Tree.{Tree}
-use Rattle.star_query.proofs.Verdicts.{one_meaning}
+use Rattle.star_query.{specs.Tree.Tree, proofs.Verdicts.one_meaning}
 use Rattle.star_plan.specs.Meaning.{Tables}
 use Rattle.star_program.specs.{declared.outcome.Cell.Cell, RowCells.cell_of}
-use Rattle.star_report.specs.Report.{report_text}
-use Rattle.star_report.proofs.OneOrder.{one_order, row_turned, same_groups}
+use Rattle.star_report.{specs.Report.report_text, proofs.OneOrder.{one_order, row_turned, same_groups}}
 use Rattle.star_query_meaning.specs.{Answers.IsAnswer, Reports.IsReport, Shows.item_columns, Shows.sorts_of}
 
 pub one_answer : (ts : Tables) (q : Tree) (names others : List (List ℕ))

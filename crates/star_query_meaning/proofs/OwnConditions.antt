@@ -1,20 +1,14 @@
 -- WHERE, on a query's own tree, says of a row what the joins and the other conjuncts of the plan
 -- say.
 use Rattle.std.proofs.Common.{◌≡◌, ◌∙◌, Bool, true, false, ◌&&◌, ◌||◌, not as negated, inl, inr, List, [], ◌∷◌, ◌++◌, Option, Some, None, option_map, refl, sym, ap, arith}
-use Rattle.std.specs.{List.AllByRecursion, Prelude.pos, Option.option_map_or, Option.option_to_list, Ordering.is_eq, Ordering.ordering_reverse, declared.cmp.Ordering.Ordering}
-use Rattle.std.specs.declared.cmp.Ordering.TheVariants.{Less, Equal, Greater}
-use Rattle.std.proofs.{lemmas.Grind.flat_map-append, lemmas.List.Folds.list_all-append}
+use Rattle.std.{specs.List.AllByRecursion, specs.Prelude.pos, specs.Option.{option_map_or, option_to_list}, specs.Ordering.{is_eq, ordering_reverse}, specs.declared.cmp.Ordering.Ordering, specs.declared.cmp.Ordering.TheVariants.{Less, Equal, Greater}, proofs.lemmas.Grind.flat_map-append, proofs.lemmas.List.Folds.list_all-append}
 use Rattle.star_schema.specs.{declared.column.ColumnId.ColumnId, Order.value_cmp, Tables.Value, Tables.Number}
 use Rattle.star_query.specs.Tree as tree
 use Rattle.star_query.specs.Tree.{Comparison, Condition, Name, Test, or, and, not, test, compare, between}
 use Rattle.star_report.proofs.OneOrder.{value_turned}
-use Rattle.star_plan.specs.{declared.tree.Join.Join, Joins.Pair, Joins.is_foreign, Joins.join_by, Joins.join_of, Joins.joins_of, Joins.pairs_of, Joins.where_pairs, Names.column_at}
+use Rattle.star_plan.{specs.declared.tree.Join.Join, specs.Joins.{Pair, is_foreign, join_by, join_of, joins_of, pairs_of, where_pairs}, specs.Names.column_at, specs.Meaning.{Joined, all_hold, holds, joined_value}, specs.Resolved.{conjuncts_of, resolved_condition, resolved_test, where_conjuncts}, proofs.Known.{each_left, each_right}, proofs.Options.{both_gave, first_or_second, mapped_gave}, proofs.Related.condition_related}
 use Rattle.star_plan.specs.Meaning as plan
-use Rattle.star_plan.specs.Meaning.{Joined, all_hold, holds, joined_value}
-use Rattle.star_plan.specs.Resolved.{conjuncts_of, resolved_condition, resolved_test, where_conjuncts}
-use Rattle.star_plan.proofs.{Known.each_left, Known.each_right, Options.both_gave, Options.first_or_second, Options.mapped_gave, Related.condition_related}
-use Rattle.star_query_meaning.specs.Rows.{is_true, test_is_true, value_named, where_is_true}
-use Rattle.star_query_meaning.proofs.Choices.{all_joined, is_joined_by}
+use Rattle.star_query_meaning.{specs.Rows.{is_true, test_is_true, value_named, where_is_true}, proofs.Choices.{all_joined, is_joined_by}}
 
 -- ---- names
 

@@ -1,11 +1,9 @@
 -- A query fits tables by its own words where its plan does.
-use Rattle.std.proofs.Common.{◌≡◌, ◌∙◌, ◌↔◌, ℕ, List, [], ◌∷◌, Some, refl, sym, ap, arith}
-use Rattle.std.specs.{Prelude.◌+ℤ◌, Prelude.◌-ℤ◌, Prelude.◌*ℤ◌, Prelude.◌&&◌, List.list_all}
+use Rattle.std.{proofs.Common.{◌≡◌, ◌∙◌, ◌↔◌, ℕ, List, [], ◌∷◌, Some, refl, sym, ap, arith}, specs.Prelude.{◌+ℤ◌, ◌-ℤ◌, ◌*ℤ◌, ◌&&◌}, specs.List.list_all}
 use Rattle.star_schema.specs.{declared.column.ColumnId.ColumnId, Columns.bounds_in}
 use Rattle.star_interval.specs.Range.{corner_range, fits_i64, only}
 use Rattle.star_query.specs.Tree.{Expression, Item, Measure, Name, Tree, add, column, constant, mul, sub}
-use Rattle.star_plan.specs.{Fits.measure_fits, Fits.nodes_fit, Fits.expression_range, Meaning.Plan, Meaning.Tables, Names.column_at, Resolved.IsResolved, Resolved.resolved_expression, Resolved.option_all, Resolved.resolved_measure}
-use Rattle.star_plan.proofs.{Options.both_gave, Options.mapped_gave, Related.expression_related}
+use Rattle.star_plan.{specs.Fits.{measure_fits, nodes_fit, expression_range}, specs.Meaning.{Plan, Tables}, specs.Names.column_at, specs.Resolved.{IsResolved, resolved_expression, option_all, resolved_measure}, proofs.Options.{both_gave, mapped_gave}, proofs.Related.expression_related}
 use Rattle.star_query_meaning.specs.{Fitting.FitsTables, Fitting.PlanFitsTables, Fitting.range_named, Rows.measures_of}
 use Rattle.star_query.specs.Tree as tree
 

@@ -1,21 +1,14 @@
 -- What a query shows by its own words is what its plan shows.
-use Rattle.std.proofs.Common.{◌≡◌, ◌∙◌, ℕ, zero, suc, ◌+◌, ◌<◌, List, [], ◌∷◌, ◌++◌, Some, get_or, length, map, nat_eq, refl, sym, ap, arith}
-use Rattle.std.specs.{Cmp.Lexicographic.pointwise, Cmp.Lexicographic.same_text, List.flat_map, List.position, Option.option_to_list}
-use Rattle.std.proofs.lemmas.List.Quantifiers.{position-Some}
-use Rattle.star_schema.specs.declared.{column.ColumnId.ColumnId, column.ColumnId.TheVariants.DDatekey, column.TheConstants.COLUMNS, group.GroupColumn.GroupColumn}
+use Rattle.std.{proofs.Common.{◌≡◌, ◌∙◌, ℕ, zero, suc, ◌+◌, ◌<◌, List, [], ◌∷◌, ◌++◌, Some, get_or, length, map, nat_eq, refl, sym, ap, arith}, specs.Cmp.Lexicographic.{pointwise, same_text}, specs.List.{flat_map, position}, specs.Option.option_to_list, proofs.lemmas.List.Quantifiers.position-Some}
+use Rattle.star_schema.{specs.declared.column.ColumnId.ColumnId, specs.declared.column.ColumnId.TheVariants.DDatekey, specs.declared.column.TheConstants.COLUMNS, specs.declared.group.GroupColumn.GroupColumn, specs.Schema.column_name, proofs.NamesApart.found_named}
 use Rattle.star_schema.specs.declared.group.GroupColumn.TheVariants as group
 use Rattle.star_schema.specs.declared.group.SortKey as sorted
-use Rattle.star_schema.specs.Schema.{column_name}
-use Rattle.star_schema.proofs.NamesApart.{found_named}
 use Rattle.star_query.specs.{declared.token.Fold.Fold, Tree.Expression, Tree.Item, Tree.Measure, Tree.Name, Tree.SortKey, Tree.Tree}
 use Rattle.star_query.specs.declared.token.Fold.TheVariants as fold
 use Rattle.star_query.specs.Tree as tree
 use Rattle.star_plan.specs.Meaning as plan
-use Rattle.star_plan.specs.{Meaning.Joined, Meaning.Plan, Meaning.joined_value, Names.column_at, Names.column_called, Resolved.items_from, Resolved.option_all, Resolved.resolved_expression, Resolved.resolved_measure}
-use Rattle.star_plan.specs.Naming.{name_of_aggregate, aggregate_names, names_from, key_column, resolved_key}
-use Rattle.star_plan.proofs.{Options.both_gave, Options.mapped_all, Options.mapped_gave, Related.expression_related}
-use Rattle.star_query_meaning.specs.{Answers.shown_name, Rows.measures_of, Rows.value_named, Shows.columns_from, Shows.item_names_from}
-use Rattle.star_query_meaning.proofs.OwnConditions.{named}
+use Rattle.star_plan.{specs.Meaning.{Joined, Plan, joined_value}, specs.Names.{column_at, column_called}, specs.Resolved.{items_from, option_all, resolved_expression, resolved_measure}, specs.Naming.{name_of_aggregate, aggregate_names, names_from, key_column, resolved_key}, proofs.Options.{both_gave, mapped_all, mapped_gave}, proofs.Related.expression_related}
+use Rattle.star_query_meaning.{specs.Answers.shown_name, specs.Rows.{measures_of, value_named}, specs.Shows.{columns_from, item_names_from}, proofs.OwnConditions.named}
 
 -- ---- the values of a row
 
@@ -79,34 +72,34 @@ columns_same groups before (tree.aggregate a ∷ items) cs e =
 
 -- ---- names
 
--- the column at a place
-column_there : (names : List Name) (cs : List ColumnId) (place : ℕ) (n : Name) (c : ColumnId)
-    → option_all column_at names ≡ Some cs → place < length names
-    → column_at (get_or names place n) ≡ Some (get_or cs place c)
-column_there [] cs place n c e h = absurd (omega arith)
+-- the column at a position
+column_there : (names : List Name) (cs : List ColumnId) (index : ℕ) (n : Name) (c : ColumnId)
+    → option_all column_at names ≡ Some cs → index < length names
+    → column_at (get_or names index n) ≡ Some (get_or cs index c)
+column_there [] cs index n c e h = absurd (omega arith)
 column_there (m ∷ ms) cs zero n c e h =
     let g = both_gave (λ y ys. y ∷ ys) (column_at m) (option_all column_at ms) cs e in
     g.first ∙ ap (λ ds. Some (get_or ds 0 c)) g.made
-column_there (m ∷ ms) cs (suc place) n c e h =
+column_there (m ∷ ms) cs (suc index) n c e h =
     let g = both_gave (λ y ys. y ∷ ys) (column_at m) (option_all column_at ms) cs e in
-    column_there ms g.right place n c g.second (omega arith)
-    ∙ ap (λ ds. Some (get_or ds (suc place) c)) g.made
+    column_there ms g.right index n c g.second (omega arith)
+    ∙ ap (λ ds. Some (get_or ds (suc index) c)) g.made
 
 column_named : (n : Name) (c : ColumnId) → column_at n ≡ Some c → column_name c ≡ n.text
 unfolding column_called
 column_named n c e = found_named column_name n.text COLUMNS c e
 
 -- a group column is shown under the name that stands in SELECT
-key_shown : (groups : List Name) (cs : List ColumnId) (text : List ℕ) (place : ℕ)
+key_shown : (groups : List Name) (cs : List ColumnId) (text : List ℕ) (index : ℕ)
     → option_all column_at groups ≡ Some cs
-    → position (λ n. pointwise nat_eq n.text text) groups ≡ Some place
-    → text ≡ column_name (get_or cs place DDatekey)
-key_shown [] cs text place e h = absurd (cc)
-key_shown (g ∷ gs) cs text place e h =
-    let found = position-Some (λ n. pointwise nat_eq n.text text) (g ∷ gs) place g h in
-    let there = column_there (g ∷ gs) cs place g DDatekey e found.0 in
-    sym (column_named (get_or (g ∷ gs) place g) (get_or cs place DDatekey) there
-    ∙ same_text (get_or (g ∷ gs) place g).text text (sym found.1))
+    → position (λ n. pointwise nat_eq n.text text) groups ≡ Some index
+    → text ≡ column_name (get_or cs index DDatekey)
+key_shown [] cs text index e h = absurd (cc)
+key_shown (g ∷ gs) cs text index e h =
+    let found = position-Some (λ n. pointwise nat_eq n.text text) (g ∷ gs) index g h in
+    let there = column_there (g ∷ gs) cs index g DDatekey e found.0 in
+    sym (column_named (get_or (g ∷ gs) index g) (get_or cs index DDatekey) there
+    ∙ same_text (get_or (g ∷ gs) index g).text text (sym found.1))
 
 -- the names that are shown, where these names of aggregates come last
 pub names_same : (groups : List Name) (p : Plan) (before : ℕ) (items : List Item)
@@ -119,7 +112,7 @@ names_same groups p before [] cs keys e names = let none : [] ≡ cs = cc in
 names_same groups p before (tree.plain n ∷ items) cs keys e names =
     let g = both_gave (λ c cs. c ∷ cs) (key_column groups n.text)
     (items_from groups before items) cs e in
-    let at = mapped_gave (λ place. group.Key place)
+    let at = mapped_gave (λ index. group.Key index)
     (position (λ m. pointwise nat_eq m.text n.text) groups) g.left g.first in
     let rest = names_same groups p before items g.right keys g.second names in
     (λ i. (key_shown groups p.keys n.text at.0 keys at.1 ∙ ap (shown_name p) at.2) i ∷ rest i)

@@ -1,18 +1,9 @@
 -- FROM names lineorder and the dimensions that are joined, in some order.
-use Rattle.std.proofs.Common.{◌≡◌, ◌∙◌, Bool, true, false, true≢false, ◌||◌, inl, inr, List, [], ◌∷◌, ◌++◌, Option, Some, None, nat_eq, refl, sym, ap, subst, arith}
-use Rattle.std.proofs.lemmas.List.Sorted.{IsPermutation-refl, IsPermutation-cons, IsPermutation-middle, IsPermutation-sym, IsPermutation-trans}
-use Rattle.std.proofs.{lemmas.Grind.flat_map-append, lemmas.List.Folds.list_any-append, lemmas.Bool.or_parts, lemmas.Grind.common_steps}
-use Rattle.std.specs.{Cmp.Lexicographic.pointwise, List.AllByRecursion, List.IsDistinct, List.Sorted.IsPermutation, Option.option_to_list}
-use Rattle.star_schema.specs.declared.table.TableId.TheVariants.{Date, Customer, Supplier, Part, Lineorder}
-use Rattle.star_schema.specs.declared.column.ColumnId.TheVariants.{DDatekey, CCustkey, SSuppkey, PPartkey, LoOrderkey}
-use Rattle.star_schema.specs.{declared.table.TableId.TableId, declared.table.TheConstants.TABLES, declared.column.ColumnId.ColumnId, Schema.column_of, Schema.is_table, Schema.table_name, Schema.table_of}
-use Rattle.star_schema.proofs.{NamesApart.found_named, Same.table_same, Same.table_itself}
+use Rattle.std.{proofs.Common.{◌≡◌, ◌∙◌, Bool, true, false, true≢false, ◌||◌, inl, inr, List, [], ◌∷◌, ◌++◌, Option, Some, None, nat_eq, refl, sym, ap, subst, arith}, proofs.lemmas.List.Sorted.{IsPermutation-refl, IsPermutation-cons, IsPermutation-middle, IsPermutation-sym, IsPermutation-trans}, proofs.lemmas.Grind.{flat_map-append, common_steps}, proofs.lemmas.List.Folds.list_any-append, proofs.lemmas.Bool.or_parts, specs.Cmp.Lexicographic.pointwise, specs.List.{AllByRecursion, IsDistinct}, specs.List.Sorted.IsPermutation, specs.Option.option_to_list}
+use Rattle.star_schema.{specs.declared.table.TableId.TheVariants.{Date, Customer, Supplier, Part, Lineorder}, specs.declared.column.ColumnId.TheVariants.{DDatekey, CCustkey, SSuppkey, PPartkey, LoOrderkey}, specs.declared.table.TableId.TableId, specs.declared.table.TheConstants.TABLES, specs.declared.column.ColumnId.ColumnId, specs.Schema.{column_of, is_table, table_name, table_of}, proofs.NamesApart.found_named, proofs.Same.{table_same, table_itself}}
 use Rattle.star_query.specs.Tree.{Condition, Name, Test}
-use Rattle.star_plan.specs.Joins.{Pair, join_by, join_of, joins_of, pairs_of, where_pairs}
-use Rattle.star_plan.specs.{declared.tree.Join.Join, Names.column_at, Names.has_name, Names.table_at, Names.table_called, Sound.in_scope, Sound.joins_table, Uses.where_uses, Private.Stages.condition_uses, WellNamed.IsThere, WellNamed.is_in_from, WellNamed.same_name}
-use Rattle.star_plan.proofs.{Known.Reaches, Known.each_left, Known.each_right, Options.first_or_second}
-use Rattle.star_query_meaning.specs.Rows.{tables_of}
-use Rattle.star_query_meaning.proofs.{Choices.AreApart, Choices.ors_turned, Choices.dimensions_of, Choices.is_among, OwnConditions.join_made}
+use Rattle.star_plan.{specs.Joins.{Pair, join_by, join_of, joins_of, pairs_of, where_pairs}, specs.declared.tree.Join.Join, specs.Names.{column_at, has_name, table_at, table_called}, specs.Sound.{in_scope, joins_table}, specs.Uses.where_uses, specs.Private.Stages.condition_uses, specs.WellNamed.{IsThere, is_in_from, same_name}, proofs.Known.{Reaches, each_left, each_right}, proofs.Options.first_or_second}
+use Rattle.star_query_meaning.{specs.Rows.tables_of, proofs.Choices.{AreApart, ors_turned, dimensions_of, is_among}, proofs.OwnConditions.join_made}
 use Rattle.star_query.specs.Tree as tree
 
 -- ---- lists of tables
@@ -137,7 +128,8 @@ named_apart (n ∷ ns) all once = grind (arith, named_apart ns all.1 once.1, not
 
 -- ---- the dimensions that are joined
 
-pub among_dimensions : (js : List Join) (t : TableId) → joins_table js t ≡ is_among t (dimensions_of js)
+pub among_dimensions : (js : List Join) (t : TableId)
+    → joins_table js t ≡ is_among t (dimensions_of js)
 among_dimensions [] t = refl
 among_dimensions (j ∷ js) t = ap (λ b. is_table t (table_of j.key) || b) (among_dimensions js t)
 

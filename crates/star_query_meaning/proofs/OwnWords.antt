@@ -1,18 +1,11 @@
 -- What a query answers by its own words is what its plan answers.
-use Rattle.std.proofs.Common.{◌≡◌, ◌∙◌, ℕ, ◌+◌, true, arith, get_or, List, [], ◌∷◌, ◌++◌, length, map, sym, ap, subst}
-use Rattle.std.specs.{Prelude.filter, List.AllByRecursion, List.Sorted.IsPermutation}
-use Rattle.std.proofs.lemmas.List.Sorted.{IsPermutation-map, IsPermutation-sym}
+use Rattle.std.{proofs.Common.{◌≡◌, ◌∙◌, ℕ, ◌+◌, true, arith, get_or, List, [], ◌∷◌, ◌++◌, length, map, sym, ap, subst}, specs.Prelude.filter, specs.List.AllByRecursion, specs.List.Sorted.IsPermutation, proofs.lemmas.List.Sorted.{IsPermutation-map, IsPermutation-sym}}
 use Rattle.star_schema.specs.{declared.table.TableId.TheVariants.Lineorder, Groups.AreGroups, Groups.Entry, Groups.GroupRow, Order.AreInOrder, Order.value_cmp, Schema.table_of, Tables.Value}
 use Rattle.star_query.specs.Tree.{Tree}
-use Rattle.star_plan.specs.{Joins.joins_of, Joins.where_pairs, Meaning.Plan, Meaning.Tables, Meaning.all_hold, Meaning.joined_rows, Names.column_at, Resolved.IsResolved, Uses.where_uses, Private.Stages.groups_uses, Private.Stages.items_uses, WellNamed.IsWellNamed, WellNamed.is_in_from}
+use Rattle.star_plan.{specs.Joins.{joins_of, where_pairs}, specs.Meaning.{Plan, Tables, all_hold, joined_rows}, specs.Names.column_at, specs.Resolved.IsResolved, specs.Uses.where_uses, specs.Private.Stages.{groups_uses, items_uses}, specs.WellNamed.{IsWellNamed, is_in_from}, proofs.Conditions.no_fault, proofs.Known.{each_left, each_right}, proofs.KeptCounts.all_counted, proofs.KeptJoins.where_foreign, proofs.Whole.parts}
 use Rattle.star_plan.specs.Meaning as plan
-use Rattle.star_plan.proofs.{Conditions.no_fault, Known.each_left, Known.each_right, KeptCounts.all_counted, KeptJoins.where_foreign, Whole.parts}
 use Rattle.star_program.specs.{declared.outcome.Cell.Cell, RowCells.cell_of}
-use Rattle.star_query_meaning.specs.{Answers.IsAnswer, Answers.IsPlanAnswer, Answers.shown_name, Shows.item_columns, Shows.item_names, Shows.sorts_of}
-use Rattle.star_query_meaning.specs.Rows.{query_entry, measures_of, product, selected, tables_of}
-use Rattle.star_query_meaning.proofs.Choices.{IsStar, all_joined, dimensions_apart, dimensions_of, filter_both, is_star, joined_product, no_fact_among, product_reordered}
-use Rattle.star_query_meaning.proofs.{GroupOrders.groups_reordered, OwnConditions.where_same, OwnTables.from_tables, OwnTables.named_apart, OwnTables.where_named, Reorderings.filter_reordered}
-use Rattle.star_query_meaning.proofs.OwnShows.{columns_same, functions_same, keys_same, names_same, sorts_same, values_same}
+use Rattle.star_query_meaning.{specs.Answers.{IsAnswer, IsPlanAnswer, shown_name}, specs.Shows.{item_columns, item_names, sorts_of}, specs.Rows.{query_entry, measures_of, product, selected, tables_of}, proofs.Choices.{IsStar, all_joined, dimensions_apart, dimensions_of, filter_both, is_star, joined_product, no_fact_among, product_reordered}, proofs.GroupOrders.groups_reordered, proofs.OwnConditions.where_same, proofs.OwnTables.{from_tables, named_apart, where_named}, proofs.Reorderings.filter_reordered, proofs.OwnShows.{columns_same, functions_same, keys_same, names_same, sorts_same, values_same}}
 
 module _ (ts : Tables) (t : Tree) (p : Plan) (named : IsWellNamed t)
     (resolved : IsResolved t p) where

@@ -1,31 +1,28 @@
--- What stays where the elements of a list change places.
-use Rattle.std.proofs.Common.{◌≡◌, ℕ, zero, suc, ◌<◌, Bool, true, false, List, [], ◌∷◌, ◌++◌, length, get_or, refl, sym, subst, arith, cond}
-use Rattle.std.specs.{Prelude.filter, List.flat_map, List.swap, List.Sorted.IsPermutation}
-use Rattle.std.proofs.{Math.ListN.set, lemmas.List.append_assoc, lemmas.List.Edits.swap_is}
-use Rattle.std.proofs.lemmas.List.Sorted.{IsPermutation-refl, IsPermutation-trans, IsPermutation-cons, IsPermutation-middle, IsPermutation-append, IsPermutation-append_comm, IsPermutation-append_left, IsPermutation-append_right, IsPermutation-keeps}
+-- What stays where the elements of a list change positions.
+use Rattle.std.{proofs.Common.{◌≡◌, ℕ, zero, suc, ◌<◌, Bool, true, false, List, [], ◌∷◌, ◌++◌, length, get_or, refl, sym, subst, arith, cond}, specs.Prelude.filter, specs.List.{flat_map, swap}, specs.List.Sorted.IsPermutation, proofs.Math.ListN.set, proofs.lemmas.List.append_assoc, proofs.lemmas.List.Edits.swap_is, proofs.lemmas.List.Sorted.{IsPermutation-refl, IsPermutation-trans, IsPermutation-cons, IsPermutation-middle, IsPermutation-append, IsPermutation-append_comm, IsPermutation-append_left, IsPermutation-append_right, IsPermutation-keeps}}
 
--- ---- a relation that holds of equal lists, and where two neighbours change places
+-- ---- a relation that holds of equal lists, and where two neighbours change positions
 
 module _ {X : Type 0} (R : List X → List X → Type 0) (same : (xs : List X) → R xs xs)
     (again : (xs ys zs : List X) → R xs ys → R ys zs → R xs zs)
     (under : (x : X) (xs ys : List X) → R xs ys → R (x ∷ xs) (x ∷ ys))
     (turned : (x y : X) (xs : List X) → R (x ∷ y ∷ xs) (y ∷ x ∷ xs)) where
-  to_place : (x : X) (xs : List X) (k : ℕ) (d : X) → k < length xs
+  to_index : (x : X) (xs : List X) (k : ℕ) (d : X) → k < length xs
       → R (x ∷ xs) (get_or xs k d ∷ set xs k x)
-  to_place x [] k d h = absurd (omega arith)
-  to_place x (y ∷ ys) zero d h = turned x y ys
-  to_place x (y ∷ ys) (suc k) d h =
+  to_index x [] k d h = absurd (omega arith)
+  to_index x (y ∷ ys) zero d h = turned x y ys
+  to_index x (y ∷ ys) (suc k) d h =
       again (x ∷ y ∷ ys) (y ∷ x ∷ ys) (get_or ys k d ∷ y ∷ set ys k x) (turned x y ys)
       (again (y ∷ x ∷ ys) (y ∷ get_or ys k d ∷ set ys k x) (get_or ys k d ∷ y ∷ set ys k x)
-      (under y (x ∷ ys) (get_or ys k d ∷ set ys k x) (to_place x ys k d (omega arith)))
+      (under y (x ∷ ys) (get_or ys k d ∷ set ys k x) (to_index x ys k d (omega arith)))
       (turned y (get_or ys k d) (set ys k x)))
 
   exchanged : (xs : List X) (i j : ℕ) (d : X) → i < length xs → j < length xs
       → R xs (set (set xs i (get_or xs j d)) j (get_or xs i d))
   exchanged [] i j d h k = absurd (omega arith)
   exchanged (x ∷ xs) zero zero d h k = same (x ∷ xs)
-  exchanged (x ∷ xs) zero (suc j) d h k = to_place x xs j d (omega arith)
-  exchanged (x ∷ xs) (suc i) zero d h k = to_place x xs i d (omega arith)
+  exchanged (x ∷ xs) zero (suc j) d h k = to_index x xs j d (omega arith)
+  exchanged (x ∷ xs) (suc i) zero d h k = to_index x xs i d (omega arith)
   exchanged (x ∷ xs) (suc i) (suc j) d h k =
       under x xs (set (set xs i (get_or xs j d)) j (get_or xs i d))
       (exchanged xs i j d (omega arith) (omega arith))

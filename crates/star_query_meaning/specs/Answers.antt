@@ -1,7 +1,6 @@
 -- What a query answers over five tables, by its own words and by its plan's.
 use Rattle.std.specs.Prelude.{◌≡◌, ℕ, List, [], length, map, slice_index_or}
-use Rattle.star_schema.specs.{declared.column.ColumnId.TheVariants.DDatekey, declared.group.GroupColumn.GroupColumn, declared.group.GroupColumn.TheVariants.Key, declared.group.GroupColumn.TheVariants.Aggregate, Groups.AreGroups, Groups.GroupRow, Order.AreInOrder, Order.value_cmp}
-use Rattle.star_schema.specs.{Schema.column_name, Tables.Value}
+use Rattle.star_schema.specs.{declared.column.ColumnId.TheVariants.DDatekey, declared.group.GroupColumn.GroupColumn, declared.group.GroupColumn.TheVariants.{Key, Aggregate}, Groups.{AreGroups, GroupRow}, Order.{AreInOrder, value_cmp}, Schema.column_name, Tables.Value}
 use Rattle.star_query.specs.Tree.{Tree}
 use Rattle.star_plan.specs.Meaning.{Plan, Tables}
 use Rattle.star_program.specs.{declared.outcome.Cell.Cell, RowCells.cell_of}
@@ -22,8 +21,8 @@ pub record IsAnswer (ts : Tables) (q : Tree) (names : List (List ℕ)) (rows : L
 -- under which name a column of a plan's groups is shown: a key under its column's, an aggregate
 -- under its own
 abbrev pub shown_name : Plan → GroupColumn → List ℕ
-shown_name p (Key place) = column_name (slice_index_or p.keys place DDatekey)
-shown_name p (Aggregate place) = slice_index_or p.names place []
+shown_name p (Key index) = column_name (slice_index_or p.keys index DDatekey)
+shown_name p (Aggregate index) = slice_index_or p.names index []
 
 -- the same of a plan
 pub record IsPlanAnswer (ts : Tables) (p : Plan) (names : List (List ℕ)) (rows : List (List Cell))

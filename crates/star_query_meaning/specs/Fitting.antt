@@ -1,7 +1,6 @@
 -- Which queries fit over five tables: by the bounds of their columns and the number of lineorder's
 -- rows only.
-use Rattle.std.specs.Prelude.{◌≡◌, ◌≤◌, ℕ, true, length, pos}
-use Rattle.std.specs.{List.list_all, Option.option_map_or}
+use Rattle.std.specs.{Prelude.{◌≡◌, ◌≤◌, ℕ, true, length, pos}, List.list_all, Option.option_map_or}
 use Rattle.star_schema.specs.{declared.table.TableId.TheVariants.Lineorder, Columns.bounds_in}
 use Rattle.star_interval.specs.Range.{Range, only}
 use Rattle.star_query.specs.Tree.{Name, Tree}

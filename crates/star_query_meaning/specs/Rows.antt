@@ -1,12 +1,9 @@
 -- Which rows a query selects, by its own words: those of the product of FROM's tables for which
 -- WHERE is true (Star Schema Benchmark, revision 3, section 3).
-use Rattle.std.specs.Prelude.{pos, Bool, true, List, [], ◌∷◌, filter, map, Option}
-use Rattle.std.specs.{List.flat_map, Option.option_map_or, Option.option_to_list, Ordering.is_eq}
+use Rattle.std.specs.{Prelude.{pos, Bool, true, List, [], ◌∷◌, filter, map, Option}, List.flat_map, Option.{option_map_or, option_to_list}, Ordering.is_eq}
 use Rattle.star_schema.specs.{declared.table.TableId.TableId, Groups.Entry, Order.value_cmp, Tables.Value, Tables.Number}
-use Rattle.star_query.specs.Tree.{Name, Test, pair, comparison, Condition, Tree}
-use Rattle.star_query.specs.{Leaves.is_so}
-use Rattle.star_plan.specs.Meaning.{Joined, Tables, comparison_holds, measured, joined_value, with_row}
-use Rattle.star_plan.specs.{Names.column_at, Names.table_at}
+use Rattle.star_query.specs.{Tree.{Name, Test, pair, comparison, Condition, Tree}, Leaves.is_so}
+use Rattle.star_plan.specs.{Meaning.{Joined, Tables, comparison_holds, measured, joined_value, with_row}, Names.{column_at, table_at}}
 pub use Rattle.star_plan.specs.Resolved.{measures_of}
 
 -- ---- the product

@@ -1,6 +1,5 @@
 -- What SELECT shows of a group, under which names, and by what ORDER BY sorts.
-use Rattle.std.specs.Prelude.{ℕ, ◌+◌, List, [], ◌∷◌, ◌++◌}
-use Rattle.std.specs.{List.flat_map, Option.option_to_list}
+use Rattle.std.specs.{Prelude.{ℕ, ◌+◌, List, [], ◌∷◌, ◌++◌}, List.flat_map, Option.option_to_list}
 use Rattle.star_schema.specs.declared.group.{GroupColumn.GroupColumn, GroupColumn.TheVariants.Aggregate, SortKey.SortKey}
 use Rattle.star_query.specs.Tree.{Name, Item, plain, aggregate, Tree}
 use Rattle.star_plan.specs.Naming.{name_of_aggregate, aggregate_names, key_column, resolved_key}

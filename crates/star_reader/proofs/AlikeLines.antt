@@ -1,13 +1,9 @@
 -- Lines that differ only in bytes on which no record hangs: in a field that is too long, or behind
 -- too many fields.
-use Rattle.std.proofs.Common.{◌≡◌, ◌⊎◌, ◌+◌, ◌<◌, ◌≤◌, ◌∙◌, ◌==◌, ℕ, zero, suc, List, [], ◌∷◌, ◌++◌, false, Some, None, length, take, refl, sym, ap, inl, inr, arith}
-use Rattle.std.proofs.lemmas.Bool.{cases_Bool, eq-eqb, eqb-true, lt-leb, true≢false}
-use Rattle.std.specs.List.{slice_get}
-use Rattle.star_common.specs.First.{first_answer}
-use Rattle.star_common.proofs.Firsts.{or_none}
+use Rattle.std.{proofs.Common.{◌≡◌, ◌⊎◌, ◌+◌, ◌<◌, ◌≤◌, ◌∙◌, ◌==◌, ℕ, zero, suc, List, [], ◌∷◌, ◌++◌, false, Some, None, length, take, refl, sym, ap, inl, inr, arith}, proofs.lemmas.Bool.{cases_Bool, eq-eqb, eqb-true, lt-leb, true≢false}, specs.List.slice_get}
+use Rattle.star_common.{specs.First.first_answer, proofs.Firsts.or_none}
 use Rattle.star_schema.specs.{declared.column.Kind.Kind, Records.fields_of, Records.is_bar, Records.pieces, Records.with_first, Tables.cells_of, Tables.ends_in_bar, Tables.is_empty_field, Tables.values_of}
-use Rattle.star_reader.specs.{Faults.cell_fault, Faults.cells_fault, Carried.AreOneRecord, Carried.run_from}
-use Rattle.star_reader.proofs.{Counts.right_count, Counts.wrong_count, Cuts.pieces_some}
+use Rattle.star_reader.{specs.Faults.{cell_fault, cells_fault}, specs.Carried.{AreOneRecord, run_from}, proofs.Counts.{right_count, wrong_count}, proofs.Cuts.pieces_some}
 use Rattle.star_reader.specs.declared.fault.ReadFault.TheVariants as fault
 
 -- two fields are equal, or both too long, where `n` bytes more stand before each
@@ -64,8 +60,7 @@ alike_count n [] (y ∷ ys) h = absurd h
 alike_count n (x ∷ xs) [] h = absurd h
 alike_count n (x ∷ xs) (y ∷ ys) h = ap suc (alike_count 0 xs ys h.1)
 
-alike_empty : (x y : List ℕ) → AreAlike 0 x y
-    → is_empty_field (Some x) ≡ is_empty_field (Some y)
+alike_empty : (x y : List ℕ) → AreAlike 0 x y → is_empty_field (Some x) ≡ is_empty_field (Some y)
 alike_empty [] [] h = refl
 alike_empty (b ∷ x) (c ∷ y) h = refl
 alike_empty [] (c ∷ y) h = elim h

@@ -1,6 +1,5 @@
 -- How many cells a record has, and its fault.
-use Rattle.std.proofs.Common.{◌≡◌, ◌==◌, ℕ, List, Bool, true, false, Some, length, refl}
-use Rattle.std.proofs.{lemmas.Bool.eq-eqb, lemmas.Bool.eqb-true}
+use Rattle.std.proofs.{Common.{◌≡◌, ◌==◌, ℕ, List, Bool, true, false, Some, length, refl}, lemmas.Bool.{eq-eqb, eqb-true}}
 use Rattle.star_schema.specs.{declared.column.Kind.Kind, Tables.cells_of}
 use Rattle.star_reader.specs.Faults.{cells_fault, record_fault}
 use Rattle.star_reader.specs.declared.fault.ReadFault.TheVariants as fault

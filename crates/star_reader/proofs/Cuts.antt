@@ -1,11 +1,7 @@
 -- The records of a text that is cut at an end of a line, and their first fault.
-use Rattle.std.proofs.Common.{◌≡◌, ◌⊎◌, ◌+◌, ◌++◌, ◌∙◌, ℕ, List, [], ◌∷◌, Bool, true, false, Option, Some, None, length, refl, sym, ap, arith, append_assoc, add-zero, inl, inr}
-use Rattle.std.proofs.{lemmas.Bool.and_parts, lemmas.Bool.cases_Bool, lemmas.Bool.eqb-true, lemmas.Bool.true≢false, lemmas.List.append-nil, lemmas.List.Elements.filter-append}
-use Rattle.std.specs.Prelude.{◌==◌, if◌then◌else◌, filter, nat_lt, nat_eq}
-use Rattle.std.specs.{List.list_all, List.starts_with, Option.option_or}
+use Rattle.std.{proofs.Common.{◌≡◌, ◌⊎◌, ◌+◌, ◌++◌, ◌∙◌, ℕ, List, [], ◌∷◌, Bool, true, false, Option, Some, None, length, refl, sym, ap, arith, append_assoc, add-zero, inl, inr}, proofs.lemmas.Bool.{and_parts, cases_Bool, eqb-true, true≢false}, proofs.lemmas.List.append-nil, proofs.lemmas.List.Elements.filter-append, specs.Prelude.{◌==◌, if◌then◌else◌, filter, nat_lt, nat_eq}, specs.List.{list_all, starts_with}, specs.Option.option_or}
 use Rattle.star_common.specs.First.{first_answer}
-use Rattle.star_schema.specs.Records.{ends_line, fields_of, is_filled, pieces, records_of, with_first}
-use Rattle.star_schema.specs.{declared.table.TableId.TableId, Schema.kinds_of}
+use Rattle.star_schema.specs.{Records.{ends_line, fields_of, is_filled, pieces, records_of, with_first}, declared.table.TableId.TableId, Schema.kinds_of}
 use Rattle.star_reader.specs.{Faults.byte_order_mark, Faults.record_fault, Faults.records_fault, Carried.is_inner, Private.Cut.EndsInLineEnd, Private.Cut.IsBegun}
 use Rattle.star_reader.specs.declared.fault.ReadFault.TheVariants as fault
 

@@ -1,13 +1,8 @@
 -- The first field of a text, as a number.
-use Rattle.std.proofs.Common.{◌≡◌, ◌+◌, ◌^◌, ◌<◌, ◌≤◌, ◌∙◌, ℕ, ℤ, List, [], ◌∷◌, ◌&&◌, true, false, Some, None, get_or, length, take, refl, inl, inr, arith}
-use Rattle.std.proofs.lemmas.Bool.{and_from, and_parts, cases_Bool, eqb-true, le-leb}
-use Rattle.std.proofs.{lemmas.List.length-take-le}
-use Rattle.std.specs.{Char.is_ascii_digit, List.list_all, Prelude.◌==◌, Prelude.if◌then◌else◌, Prelude.nat_le, Str.Parse.digits_value, Str.Parse.starts_with_minus}
-use Rattle.star_common.specs.Numerals.{is_numeral}
+use Rattle.std.{proofs.Common.{◌≡◌, ◌+◌, ◌^◌, ◌<◌, ◌≤◌, ◌∙◌, ℕ, ℤ, List, [], ◌∷◌, ◌&&◌, true, false, Some, None, get_or, length, take, refl, inl, inr, arith}, proofs.lemmas.Bool.{and_from, and_parts, cases_Bool, eqb-true, le-leb}, proofs.lemmas.List.length-take-le, specs.Char.is_ascii_digit, specs.List.list_all, specs.Prelude.{◌==◌, if◌then◌else◌, nat_le}, specs.Str.Parse.{digits_value, starts_with_minus}}
+use Rattle.star_common.{specs.Numerals.is_numeral, proofs.NumeralLemmas.{below_power, digit_bounds}}
 use Rattle.star_schema.specs.Tables.{is_number, number_of}
-use Rattle.star_common.proofs.NumeralLemmas.{below_power, digit_bounds}
-use Rattle.star_reader.specs.Private.Fronts.{IsFront, is_plain}
-use Rattle.star_reader.proofs.Fronts.{other_plain}
+use Rattle.star_reader.{specs.Private.Fronts.{IsFront, is_plain}, proofs.Fronts.other_plain}
 
 digit_plain : (b : ℕ) → is_ascii_digit b ≡ true → is_plain b ≡ true
 digit_plain b digit =
@@ -26,9 +21,8 @@ written_digit b d few is =
 
 -- some digits and a bar behind them are a first field, which is a numeral
 pub bar_front : (text : List ℕ) (count value : ℕ) → 1 ≤ count → count ≤ 18 → count < length text
-    → list_all is_ascii_digit (take count text) ≡ true
-    → value ≡ digits_value 10 (take count text) → value < 10 ^ count
-    → get_or text count 0 ≡ 124
+    → list_all is_ascii_digit (take count text) ≡ true → value ≡ digits_value 10 (take count text)
+    → value < 10 ^ count → get_or text count 0 ≡ 124
     → IsFront text count × (is_numeral 18 (take count text) ≡ true)
     × (value ≡ digits_value 10 (take count text)) × (value < 10 ^ 18)
 bar_front text count value some few within digits writes small bar =

@@ -1,12 +1,8 @@
 -- The first field of a text, as a text.
-use Rattle.std.proofs.Common.{◌≡◌, ◌⊎◌, ◌+◌, ◌<◌, ◌≤◌, ◌∙◌, ◌||◌, ℕ, zero, suc, Bool, List, [], ◌∷◌, true, false, get_or, length, not, take, refl, sym, inl, inr, arith}
-use Rattle.std.proofs.lemmas.Bool.{and_from, and_parts, cases_Bool, le-leb, leb-true, true≢false}
-use Rattle.std.proofs.{lemmas.List.length-take-le}
-use Rattle.std.specs.{List.list_all, List.prefix_len, Prelude.nat_le}
+use Rattle.std.{proofs.Common.{◌≡◌, ◌⊎◌, ◌+◌, ◌<◌, ◌≤◌, ◌∙◌, ◌||◌, ℕ, zero, suc, Bool, List, [], ◌∷◌, true, false, get_or, length, not, take, refl, sym, inl, inr, arith}, proofs.lemmas.Bool.{and_from, and_parts, cases_Bool, le-leb, leb-true, true≢false}, proofs.lemmas.List.length-take-le, specs.List.{list_all, prefix_len}, specs.Prelude.nat_le}
 use Rattle.star_common.specs.Printable.{is_printable}
 use Rattle.star_schema.specs.{Records.is_bar, Tables.is_short}
-use Rattle.star_reader.specs.Private.Fronts.{IsFront, is_plain, is_stop}
-use Rattle.star_reader.proofs.Fronts.{all_at}
+use Rattle.star_reader.{specs.Private.Fronts.{IsFront, is_plain, is_stop}, proofs.Fronts.all_at}
 
 -- a first field reaches as far as there is no bar
 pub past_plain : (text : List ℕ) (i n : ℕ) → list_all is_plain (take i text) ≡ true
@@ -42,9 +38,8 @@ one_front text m n a b =
     )
 
 -- a byte that is not printable stands in the first field
-pub bad_byte : (text : List ℕ) (i n : ℕ) → i < length text
-    → list_all is_plain (take i text) ≡ true → (get_or text i 0 ≡ 124 → ⊥)
-    → is_printable (get_or text i 0) ≡ false → IsFront text n
+pub bad_byte : (text : List ℕ) (i n : ℕ) → i < length text → list_all is_plain (take i text) ≡ true
+    → (get_or text i 0 ≡ 124 → ⊥) → is_printable (get_or text i 0) ≡ false → IsFront text n
     → list_all is_printable (take n text) ≡ false
 bad_byte text i n within plain other bad front =
     let reaches = past_plain text i n plain (omega (arith, within)) front in

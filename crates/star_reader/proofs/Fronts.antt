@@ -1,8 +1,5 @@
 -- The first field of what is left of a line.
-use Rattle.std.proofs.Common.{◌≡◌, ◌⊎◌, ◌+◌, ◌-◌, ◌<◌, ◌≤◌, ◌∙◌, ℕ, zero, suc, List, [], ◌∷◌, Bool, true, false, drop, get_or, length, take, refl, sym, ap, inl, inr, arith, length-drop}
-use Rattle.std.proofs.lemmas.Bool.{and_from, and_parts, cases_Bool, eqb-true, le-leb, leb-true, true≢false}
-use Rattle.std.proofs.{lemmas.List.drop-drop, lemmas.List.drop_all, lemmas.List.Folds.list_all_more}
-use Rattle.std.specs.{Prelude.nat_le, Prelude.not, List.list_all}
+use Rattle.std.{proofs.Common.{◌≡◌, ◌⊎◌, ◌+◌, ◌-◌, ◌<◌, ◌≤◌, ◌∙◌, ℕ, zero, suc, List, [], ◌∷◌, Bool, true, false, drop, get_or, length, take, refl, sym, ap, inl, inr, arith, length-drop}, proofs.lemmas.Bool.{and_from, and_parts, cases_Bool, eqb-true, le-leb, leb-true, true≢false}, proofs.lemmas.List.{drop-drop, drop_all}, proofs.lemmas.List.Folds.list_all_more, specs.Prelude.{nat_le, not}, specs.List.list_all}
 use Rattle.star_schema.specs.Records.{fields_of, is_bar, pieces}
 use Rattle.star_reader.specs.Private.Fronts.{IsFront, is_plain, left_of}
 

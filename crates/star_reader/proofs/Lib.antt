@@ -9,7 +9,7 @@ pub mod ColumnLemmas
 pub mod PassedOn
 pub mod Law
 pub mod Cuts
-pub mod CutPlaces
+pub mod CutIndexes
 pub mod AlikeLines
 pub mod OpenLines
 pub mod OpenRows
@@ -22,5 +22,5 @@ pub mod Fronts
 pub mod FrontNumbers
 pub mod FrontTexts
 pub mod LineSteps
-pub mod RowPlaces
+pub mod RowIndexes
 mod Worked

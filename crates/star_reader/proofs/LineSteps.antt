@@ -1,13 +1,7 @@
 -- One more field of a line.
-use Rattle.std.proofs.Common.{◌≡◌, ◌⊎◌, ◌+◌, ◌<◌, ◌≤◌, ◌∙◌, ◌==◌, ℕ, zero, suc, List, [], ◌∷◌, ◌++◌, true, false, Option, Some, None, drop, length, map, set, take, refl, sym, ap, inl, inr, arith, length-drop}
-use Rattle.std.proofs.lemmas.Bool.{and_parts, cases_Bool, eq-eqb, eqb-true, true≢false}
-use Rattle.std.proofs.{lemmas.List.drop-drop, lemmas.List.length-map, lemmas.List.length-take, lemmas.List.length-take-le}
-use Rattle.std.specs.List.{slice_get}
-use Rattle.star_schema.specs.Tables.{cells_of, ends_in_bar, is_cell, is_empty_field, value_of}
-use Rattle.star_schema.specs.{declared.column.Kind.Kind, Records.fields_of, Records.is_bar, Records.pieces, Records.with_first}
-use Rattle.star_reader.specs.{declared.column.RawColumn.RawColumn, declared.fault.ReadFault.ReadFault, Columns.raw_kind, Columns.values, Faults.cell_fault, Faults.record_fault, Private.Fronts.IsFront, Private.Fronts.left_of, Private.Steps.AddsRecord, Private.Steps.HasPushedTo}
-use Rattle.star_reader.proofs.Fronts.{end_left, front_there, left_within, next_left, none_left, start_left}
-use Rattle.star_reader.proofs.{Counts.right_count, Counts.wrong_count, Fields.cell_at, Law.cell_complete, Law.cell_sound}
+use Rattle.std.{proofs.Common.{◌≡◌, ◌⊎◌, ◌+◌, ◌<◌, ◌≤◌, ◌∙◌, ◌==◌, ℕ, zero, suc, List, [], ◌∷◌, ◌++◌, true, false, Option, Some, None, drop, length, map, set, take, refl, sym, ap, inl, inr, arith, length-drop}, proofs.lemmas.Bool.{and_parts, cases_Bool, eq-eqb, eqb-true, true≢false}, proofs.lemmas.List.{drop-drop, length-map, length-take, length-take-le}, specs.List.slice_get}
+use Rattle.star_schema.specs.{Tables.{cells_of, ends_in_bar, is_cell, is_empty_field, value_of}, declared.column.Kind.Kind, Records.{fields_of, is_bar, pieces, with_first}}
+use Rattle.star_reader.{specs.declared.column.RawColumn.RawColumn, specs.declared.fault.ReadFault.ReadFault, specs.Columns.{raw_kind, values}, specs.Faults.{cell_fault, record_fault}, specs.Private.Fronts.{IsFront, left_of}, specs.Private.Steps.{AddsRecord, HasPushedTo}, proofs.Fronts.{end_left, front_there, left_within, next_left, none_left, start_left}, proofs.Counts.{right_count, wrong_count}, proofs.Fields.cell_at, proofs.Law.{cell_complete, cell_sound}}
 use Rattle.star_reader.proofs.Pushes as pushes
 
 at_front : {X : Type 0} (xs : List X) (i : ℕ) (x : X) (rest : List X) → drop i xs ≡ x ∷ rest
@@ -87,12 +81,10 @@ short_line line ks i at at_row old new h within past =
     miscounted ks at_row (fields_of line) (few_cells (length ks) (fields_of line) few)
 
 -- one more field
-pub more : (line : List ℕ) (ks : List Kind) (i at count : ℕ) (old new : List RawColumn)
-    (k : Kind) (column next : RawColumn)
-    → HasPushedTo line ks i at old new → i < length ks → at ≤ length line
-    → IsFront (drop at line) count
-    → slice_get ks i ≡ Some k → is_cell k (take count (drop at line)) ≡ true
-    → slice_get new i ≡ Some column
+pub more : (line : List ℕ) (ks : List Kind) (i at count : ℕ) (old new : List RawColumn) (k : Kind)
+    (column next : RawColumn) → HasPushedTo line ks i at old new → i < length ks → at ≤ length line
+    → IsFront (drop at line) count → slice_get ks i ≡ Some k
+    → is_cell k (take count (drop at line)) ≡ true → slice_get new i ≡ Some column
     → values next ≡ values column ++ value_of k (take count (drop at line)) ∷ []
     → raw_kind next ≡ raw_kind column
     → HasPushedTo line ks (i + 1) (at + (count + 1)) old (set new i next)
@@ -132,10 +124,8 @@ no_cell line ks i at at_row old new k h within inside at_k bad none =
           (λ same. true≢false (sym (eq-eqb _ _ same) ∙ other)) none
     ]
   where
-    go : (cell : List ℕ)
-        → slice_get (cells_of (length ks) (fields_of line)) i ≡ Some cell
-        → is_cell k cell ≡ false
-        → length (cells_of (length ks) (fields_of line)) ≡ length ks
+    go : (cell : List ℕ) → slice_get (cells_of (length ks) (fields_of line)) i ≡ Some cell
+        → is_cell k cell ≡ false → length (cells_of (length ks) (fields_of line)) ≡ length ks
         → (fault : Option ReadFault) → cell_fault at_row (i + 1) k cell ≡ fault → ⊥
     go cell at_cell bad all None e =
         true≢false (sym (cell_sound at_row (i + 1) k cell e) ∙ bad)

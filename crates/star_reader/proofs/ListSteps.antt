@@ -1,6 +1,5 @@
 -- One more element of a list.
-use Rattle.std.proofs.Common.{◌≡◌, ◌+◌, ◌++◌, ◌∷◌, ◌∙◌, [], ℕ, List, Some, add-one, slice_get, take, ap}
-use Rattle.std.proofs.{Math.Seq.take-suc, lemmas.Option.get_or_from_slice_get, lemmas.Option.slice_get_within}
+use Rattle.std.proofs.{Common.{◌≡◌, ◌+◌, ◌++◌, ◌∷◌, ◌∙◌, [], ℕ, List, Some, add-one, slice_get, take, ap}, Math.Seq.take-suc, lemmas.Option.{get_or_from_slice_get, slice_get_within}}
 
 -- one more element
 pub take_one_more : {X : Type 0} (xs : List X) (i : ℕ) (x : X) → slice_get xs i ≡ Some x

@@ -1,11 +1,7 @@
 -- One more byte of an open line.
-use Rattle.std.proofs.Common.{◌≡◌, ◌⊎◌, ◌+◌, ◌<◌, ◌≤◌, ◌∙◌, ℕ, List, [], ◌∷◌, ◌++◌, true, false, length, refl, sym, ap, inl, inr, arith, append_assoc}
-use Rattle.std.proofs.{lemmas.Bool.and_parts, lemmas.Bool.cases_Bool, lemmas.Bool.eqb-true, lemmas.List.length-append}
-use Rattle.std.specs.{Prelude.◌==◌, Prelude.nat_eq, List.slice_get, List.starts_with}
-use Rattle.star_schema.specs.Records.{fields_of, is_bar, is_filled, pieces, with_first}
-use Rattle.star_schema.specs.{declared.column.Kind.Kind, Tables.cells_of, Tables.ends_in_bar, Tables.is_empty_field}
-use Rattle.star_reader.specs.{Faults.byte_order_mark, Carried.AreOneRecord, Carried.StandsFor, Carried.run_from, Private.Open.HasKeptByte, declared.open_line.OpenLine.OpenLine}
-use Rattle.star_reader.proofs.{Cuts.pieces_cut, AlikeLines.alike_record, AlikeLines.long_alike, AlikeLines.miscounted_both}
+use Rattle.std.{proofs.Common.{◌≡◌, ◌⊎◌, ◌+◌, ◌<◌, ◌≤◌, ◌∙◌, ℕ, List, [], ◌∷◌, ◌++◌, true, false, length, refl, sym, ap, inl, inr, arith, append_assoc}, proofs.lemmas.Bool.{and_parts, cases_Bool, eqb-true}, proofs.lemmas.List.length-append, specs.Prelude.{◌==◌, nat_eq}, specs.List.{slice_get, starts_with}}
+use Rattle.star_schema.specs.{Records.{fields_of, is_bar, is_filled, pieces, with_first}, declared.column.Kind.Kind, Tables.{cells_of, ends_in_bar, is_empty_field}}
+use Rattle.star_reader.{specs.Faults.byte_order_mark, specs.Carried.{AreOneRecord, StandsFor, run_from}, specs.Private.Open.HasKeptByte, specs.declared.open_line.OpenLine.OpenLine, proofs.Cuts.pieces_cut, proofs.AlikeLines.{alike_record, long_alike, miscounted_both}}
 
 same_line : (ks : List Kind) (a : List ℕ) → AreOneRecord ks a a
 same_line ks a = record { fault = λ at_row. refl; values = λ at_row none. refl }

@@ -1,20 +1,16 @@
 -- The row of an open line that ends.
-use Rattle.std.proofs.Common.{◌≡◌, ◌+◌, ◌≤◌, ◌∙◌, ◌&&◌, ℕ, List, [], ◌∷◌, ◌++◌, Bool, true, false, Some, None, length, map, refl, sym, ap, inl, inr, arith}
-use Rattle.std.proofs.{lemmas.Bool.cases_Bool, lemmas.Bool.true≢false, lemmas.List.append-nil}
-use Rattle.std.specs.{Prelude.filter, Prelude.nat_eq, Prelude.nat_lt, List.list_all, List.starts_with}
-use Rattle.star_common.specs.First.{first_answer}
-use Rattle.star_common.proofs.Firsts.{or_none}
+use Rattle.std.{proofs.Common.{◌≡◌, ◌+◌, ◌≤◌, ◌∙◌, ◌&&◌, ℕ, List, [], ◌∷◌, ◌++◌, Bool, true, false, Some, None, length, map, refl, sym, ap, inl, inr, arith}, proofs.lemmas.Bool.{cases_Bool, true≢false}, proofs.lemmas.List.append-nil, specs.Prelude.{filter, nat_eq, nat_lt}, specs.List.{list_all, starts_with}}
+use Rattle.star_common.{specs.First.first_answer, proofs.Firsts.or_none}
 use Rattle.star_schema.specs.{declared.column.Kind.Kind, declared.table.TableId.TableId, Records.fields_of, Records.is_filled, Records.records_of, Schema.kinds_of, Tables.Value, Tables.row_of}
-use Rattle.star_reader.specs.{declared.column.RawColumn.RawColumn, declared.fault.ReadFault.ReadFault, declared.open_line.OpenLine.OpenLine, declared.progress.Progress.Progress, Columns.AreColumnsOf, Columns.first_rows, Columns.values, Faults.byte_order_mark, Faults.record_fault}
-use Rattle.star_reader.specs.{Faults.records_fault, Partway.left_fault, Carried.is_inner, Carried.AreOneRecord, Carried.StandsFor, Private.Ended.HasEnded, Private.Steps.HasAdded, Private.Steps.HasRows}
+use Rattle.star_reader.specs.{declared.column.RawColumn.RawColumn, declared.fault.ReadFault.ReadFault, declared.open_line.OpenLine.OpenLine, declared.progress.Progress.Progress, Columns.{AreColumnsOf, first_rows, values}, Faults.{byte_order_mark, record_fault, records_fault}, Partway.left_fault, Carried.{is_inner, AreOneRecord, StandsFor}, Private.Ended.HasEnded, Private.Steps.{HasAdded, HasRows}}
 use Rattle.star_reader.proofs.{Cuts.inner_records, Law.marked_fault, Law.plain_fault, Law.records_sound, Law.width_kinds, TableSteps.start as begin}
 use Rattle.star_reader.specs.declared.fault.ReadFault.TheVariants as fault
 
 -- the row of one line is to be added
 pub open_start : (table : TableId) (most start : ℕ) (line : List ℕ) (columns : List RawColumn)
     → AreColumnsOf table start columns → start ≤ most
-    → HasAdded table most start (first_rows start (map values columns)) (filter is_filled (line ∷ []))
-    (filter is_filled (line ∷ []) ++ []) start columns
+    → HasAdded table most start (first_rows start (map values columns))
+    (filter is_filled (line ∷ [])) (filter is_filled (line ∷ []) ++ []) start columns
 open_start table most start line columns full within =
     rw (append-nil (filter is_filled (line ∷ [])))
     (begin table most start (filter is_filled (line ∷ [])) columns full within)
@@ -54,7 +50,7 @@ same_count : (a b : List ℕ) → is_filled a ≡ is_filled b
 same_count a b filled = elim (cases_Bool (is_filled b))
     [ inl some ↦ rw (filled, some) refl | inr none ↦ rw (filled, none) refl ]
 
--- what is left from a place that is not marked
+-- what is left from a position that is not marked
 left_plain : (is_start : Bool) (table : TableId) (most from : ℕ) (bytes : List ℕ)
     → (is_start && starts_with nat_eq bytes byte_order_mark) ≡ false
     → left_fault is_start table most from bytes ≡ records_fault table most from (records_of bytes)
@@ -99,8 +95,7 @@ kept_fault table most old bytes stands inner plain =
 pub end_faulty : (table : TableId) (most : ℕ) (old : Progress) (bytes : List ℕ) (f : ReadFault)
     → StandsFor (kinds_of table) old.line bytes → list_all is_inner bytes ≡ true
     → (old.is_start && starts_with nat_eq old.line.kept.items byte_order_mark) ≡ false
-    → records_fault table most (old.rows + 1) (filter is_filled (old.line.kept.items ∷ []))
-    ≡ Some f
+    → records_fault table most (old.rows + 1) (filter is_filled (old.line.kept.items ∷ [])) ≡ Some f
     → left_fault old.is_start table most (old.rows + 1) bytes ≡ Some f
 end_faulty table most old bytes f stands inner plain e =
     kept_fault table most old bytes stands inner plain ∙ e

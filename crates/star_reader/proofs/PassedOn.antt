@@ -1,6 +1,5 @@
 -- A fault that a call answered and that is passed on as it is.
-use Rattle.std.proofs.Common.{◌≡◌, Result, IsErrAnd, MatchResult, inl, inr}
-use Rattle.std.proofs.lemmas.Result.{err_from_is_err_and}
+use Rattle.std.proofs.{Common.{◌≡◌, Result, IsErrAnd, MatchResult, inl, inr}, lemmas.Result.err_from_is_err_and}
 use Rattle.star_common.specs.Memory.{UnlessMemory}
 
 -- what it tells of a part it tells of the whole, if that follows

@@ -1,11 +1,7 @@
 -- A text that comes in pieces has the records, and the first fault, that it has as a whole.
-use Rattle.std.proofs.Common.{◌≡◌, ◌⊎◌, ◌+◌, ◌++◌, ◌∙◌, ℕ, List, [], ◌∷◌, true, false, length, refl, sym, ap, append_assoc, inl, inr}
-use Rattle.std.proofs.{lemmas.Bool.cases_Bool, lemmas.Bool.true≢false, lemmas.List.append-nil}
-use Rattle.std.specs.{List.list_any, Option.option_or}
+use Rattle.std.{proofs.Common.{◌≡◌, ◌⊎◌, ◌+◌, ◌++◌, ◌∙◌, ℕ, List, [], ◌∷◌, true, false, length, refl, sym, ap, append_assoc, inl, inr}, proofs.lemmas.Bool.{cases_Bool, true≢false}, proofs.lemmas.List.append-nil, specs.List.list_any, specs.Option.option_or}
 use Rattle.star_schema.specs.{declared.table.TableId.TableId, Records.ends_line, Records.pieces, Records.records_of}
-use Rattle.star_reader.specs.Pieces.{ended_of, fault_from, joined_pieces, open_of, records_from}
-use Rattle.star_reader.specs.{Faults.records_fault, Private.Cut.EndsInLineEnd}
-use Rattle.star_reader.proofs.Cuts.{records_ended, records_fault-append}
+use Rattle.star_reader.{specs.Pieces.{ended_of, fault_from, joined_pieces, open_of, records_from}, specs.Faults.records_fault, specs.Private.Cut.EndsInLineEnd, proofs.Cuts.{records_ended, records_fault-append}}
 
 ended_open : (text : List ℕ) → ended_of text ++ open_of text ≡ text
 unfolding ended_of open_of

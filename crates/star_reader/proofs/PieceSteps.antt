@@ -1,12 +1,7 @@
 -- One more piece of a table's text.
-use Rattle.std.proofs.Common.{◌≡◌, ◌+◌, ◌-◌, ◌∙◌, ℕ, List, [], ◌∷◌, ◌++◌, Bool, true, false, Some, None, drop, length, map, take, refl, sym, ap, inl, inr, arith, append_assoc}
-use Rattle.std.proofs.lemmas.List.{append-nil, drop-drop, length-append, length-map, map-append, take-append-drop}
-use Rattle.std.proofs.{lemmas.Bool.and_from, lemmas.Bool.cases_Bool, lemmas.Grind.flat_map-append, lemmas.List.Folds.list_all-append}
-use Rattle.std.specs.{Prelude.nat_eq, List.list_all, List.starts_with, Option.option_or}
+use Rattle.std.{proofs.Common.{◌≡◌, ◌+◌, ◌-◌, ◌∙◌, ℕ, List, [], ◌∷◌, ◌++◌, Bool, true, false, Some, None, drop, length, map, take, refl, sym, ap, inl, inr, arith, append_assoc}, proofs.lemmas.List.{append-nil, drop-drop, length-append, length-map, map-append, take-append-drop}, proofs.lemmas.Bool.{and_from, cases_Bool}, proofs.lemmas.Grind.flat_map-append, proofs.lemmas.List.Folds.list_all-append, specs.Prelude.nat_eq, specs.List.{list_all, starts_with}, specs.Option.option_or}
 use Rattle.star_schema.specs.{declared.table.TableId.TableId, Records.records_in, Records.records_of, Schema.kinds_of, Tables.row_of}
-use Rattle.star_reader.specs.{declared.column.RawColumn.RawColumn, declared.fault.ReadFault.ReadFault, declared.progress.Progress.Progress, Columns.AreColumnsOf, Columns.first_rows, Columns.raw_kind, Columns.values, Faults.byte_order_mark, Faults.parts_fault, Faults.records_fault}
-use Rattle.star_reader.specs.{Faults.text_fault, Partway.IsFaultOf, Partway.IsPartway, Partway.left_fault, Carried.is_inner, Carried.StandsFor, Private.Cut.AreLinesOf, Private.Cut.EndsInLineEnd, Private.Cut.IsBegun, Private.Ended.HasEnded, Private.Steps.HasRows}
-use Rattle.star_reader.proofs.{Cuts.mark_ends, Cuts.records_begun, Cuts.records_ended, Cuts.records_fault-append, Law.marked_fault, Law.plain_fault, Law.records_sound}
+use Rattle.star_reader.{specs.declared.column.RawColumn.RawColumn, specs.declared.fault.ReadFault.ReadFault, specs.declared.progress.Progress.Progress, specs.Columns.{AreColumnsOf, first_rows, raw_kind, values}, specs.Faults.{byte_order_mark, parts_fault, records_fault, text_fault}, specs.Partway.{IsFaultOf, IsPartway, left_fault}, specs.Carried.{is_inner, StandsFor}, specs.Private.Cut.{AreLinesOf, EndsInLineEnd, IsBegun}, specs.Private.Ended.HasEnded, specs.Private.Steps.HasRows, proofs.Cuts.{mark_ends, records_begun, records_ended, records_fault-append}, proofs.Law.{marked_fault, plain_fault, records_sound}}
 
 -- a table has as many columns as kinds of them
 pub as_wide : {table : TableId} {rows : ℕ} {columns : List RawColumn}
@@ -99,9 +94,8 @@ line_faulty table most parts text old columns lines f h begun e = λ more later.
 behind_line : (table : TableId) (most : ℕ) (parts : List (List ℕ)) (text : List ℕ)
     (old mid : Progress) (columns after : List RawColumn)
     → (h : IsPartway table most parts text old columns)
-    → HasEnded table most old h.carried columns mid after
-    → (x : List ℕ) (later : List (List ℕ)) → IsBegun x
-    → text_fault table most (parts ++ (text ++ x) ∷ later)
+    → HasEnded table most old h.carried columns mid after → (x : List ℕ) (later : List (List ℕ))
+    → IsBegun x → text_fault table most (parts ++ (text ++ x) ∷ later)
     ≡ option_or (records_fault table most (mid.rows + 1) (records_of x))
     (parts_fault table most (mid.rows + 1 + length (records_of x)) later)
 behind_line table most parts text old mid columns after h e x later begun =
@@ -111,7 +105,7 @@ behind_line table most parts text old mid columns after h e x later begun =
     ≡ length (records_of h.carried) + length (records_of x) =
     rw (records_begun h.carried x begun)
     (length-append (records_of h.carried) (records_of x)) in
-    let place : old.rows + 1 + length (records_of (h.carried ++ x))
+    let index : old.rows + 1 + length (records_of (h.carried ++ x))
     ≡ mid.rows + 1 + length (records_of x) =
     omega (arith, all, counted) in
     h.no_fault x later
@@ -119,7 +113,7 @@ behind_line table most parts text old mid columns after h e x later begun =
       left_cut old.is_start table most (old.rows + 1) h.carried x begun,
       e.no_fault,
       counted,
-      place,
+      index,
     ) refl
 
 -- the first fault is one of the lines that ended
@@ -159,10 +153,9 @@ pub lines_on : (table : TableId) (most : ℕ) (parts : List (List ℕ)) (text : 
     → (h : IsPartway table most parts text old columns)
     → HasEnded table most old h.carried columns mid between → IsBegun lines → EndsInLineEnd lines
     → (records_fault table most (mid.rows + 1) (records_of lines) ≡ None)
-    × HasRows table mid.rows (first_rows mid.rows (map values between)) (records_of lines) []
-    new.rows after
-    → StandsFor (kinds_of table) new.line [] → new.is_start ≡ false
-    → IsPartway table most parts (text ++ lines) new after
+    × HasRows table mid.rows (first_rows mid.rows (map values between))
+    (records_of lines) [] new.rows after → StandsFor (kinds_of table) new.line []
+    → new.is_start ≡ false → IsPartway table most parts (text ++ lines) new after
 lines_on table most parts text old mid new columns between after lines h e begun closed read fresh
     start =
     let sound = records_sound table most (mid.rows + 1) (records_of lines)
@@ -178,7 +171,7 @@ lines_on table most parts text old mid new columns between after lines h e begun
       inner = refl;
       no_fault = λ more later.
           let size = length-append (records_of lines) (records_of more) in
-          let place : mid.rows + 1 + length (records_of lines ++ records_of more)
+          let index : mid.rows + 1 + length (records_of lines ++ records_of more)
           ≡ new.rows + 1 + length (records_of more) =
           omega (arith, size, counted) in
           rw (append_assoc text lines more, start)
@@ -189,7 +182,7 @@ lines_on table most parts text old mid new columns between after lines h e begun
             records_fault-append table most (mid.rows + 1) (records_of lines) (records_of more),
             read.0,
             counted,
-            place,
+            index,
           ) refl);
       so_far = λ more.
           let all : records_of (h.carried ++ (lines ++ more))
@@ -256,9 +249,9 @@ part_on table most parts text old mid new columns after h e rows line start =
 pub piece_is : (piece : List ℕ) (first behind : ℕ) → AreLinesOf piece first behind
     → take first piece ++ (take (behind - first) (drop first piece) ++ drop behind piece) ≡ piece
 piece_is piece first behind cut =
-    let place : first + (behind - first) ≡ behind = omega (arith, cut.order) in
+    let index : first + (behind - first) ≡ behind = omega (arith, cut.order) in
     let rest : drop behind piece ≡ drop (behind - first) (drop first piece) =
-    sym (drop-drop (behind - first) first piece ∙ ap (λ (n : ℕ). drop n piece) place) in
+    sym (drop-drop (behind - first) first piece ∙ ap (λ (n : ℕ). drop n piece) index) in
     rw rest
     (ap (λ (bytes : List ℕ). take first piece ++ bytes)
     (take-append-drop (behind - first) (drop first piece))
@@ -285,9 +278,8 @@ text_is text piece first behind cut =
 -- a fault of the lines of a piece is the first of the piece
 pub piece_faulty : (table : TableId) (most : ℕ) (parts : List (List ℕ)) (text piece : List ℕ)
     (first behind : ℕ) (f : ReadFault) → AreLinesOf piece first behind
-    → IsFaultOf table most parts
-    (text ++ take first piece ++ take (behind - first) (drop first piece)) f
-    → IsFaultOf table most parts (text ++ piece) f
+    → IsFaultOf table most parts (text ++ take first piece
+    ++ take (behind - first) (drop first piece)) f → IsFaultOf table most parts (text ++ piece) f
 piece_faulty table most parts text piece first behind f cut h =
     rw (text_is text piece first behind cut)
     at (fault_on table most parts
@@ -297,9 +289,8 @@ piece_faulty table most parts text piece first behind f cut h =
 pub piece_on : (table : TableId) (most : ℕ) (parts : List (List ℕ)) (progress : Progress)
     (columns : List RawColumn) (text piece : List ℕ) (first behind : ℕ)
     → AreLinesOf piece first behind
-    → IsPartway table most parts
-    (text ++ take first piece ++ take (behind - first) (drop first piece) ++ drop behind piece)
-    progress columns
+    → IsPartway table most parts (text ++ take first piece
+    ++ take (behind - first) (drop first piece) ++ drop behind piece) progress columns
     → IsPartway table most parts (text ++ piece) progress columns
 piece_on table most parts progress columns text piece first behind cut h =
     rw (text_is text piece first behind cut) at h

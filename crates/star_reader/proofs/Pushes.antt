@@ -1,10 +1,7 @@
 -- One more cell of a record.
-use Rattle.std.proofs.Common.{◌≡◌, ◌+◌, ◌≤◌, ℕ, zero, suc, List, [], ◌∷◌, ◌++◌, Some, None, drop, length, map, set, refl, sym, ap, ◌∙◌, arith, append_assoc, length-append}
-use Rattle.std.proofs.{Math.Seq.map-set_same, lemmas.List.append-nil, lemmas.List.drop_all, lemmas.List.map-set, lemmas.Option.get_or_from_slice_get, lemmas.Option.slice_get-map}
-use Rattle.std.specs.{List.slice_get, Option.option_map}
+use Rattle.std.{proofs.Common.{◌≡◌, ◌+◌, ◌≤◌, ℕ, zero, suc, List, [], ◌∷◌, ◌++◌, Some, None, drop, length, map, set, refl, sym, ap, ◌∙◌, arith, append_assoc, length-append}, proofs.Math.Seq.map-set_same, proofs.lemmas.List.{append-nil, drop_all, map-set}, proofs.lemmas.Option.{get_or_from_slice_get, slice_get-map}, specs.List.slice_get, specs.Option.option_map}
 use Rattle.star_schema.specs.{declared.column.Kind.Kind, Tables.Value, Tables.value_of, Tables.values_of}
-use Rattle.star_common.specs.First.{first_answer}
-use Rattle.star_common.proofs.Lists.{drop_at_place}
+use Rattle.star_common.{specs.First.first_answer, proofs.Lists.drop_at_index}
 use Rattle.star_reader.specs.{declared.column.RawColumn.RawColumn, declared.fault.ReadFault.ReadFault, Columns.raw_kind, Columns.values, Private.Extended.extended_columns, Faults.cell_fault, Faults.cells_fault, Private.Steps.HasPushed}
 
 extended-nil : (columns : List (List Value)) → extended_columns columns [] ≡ columns
@@ -41,7 +38,7 @@ start at_row ks cells columns =
       kinds = refl;
     }
 
--- what a column is, by its place
+-- what a column is, by its position
 pub kind_there : (old new : List RawColumn) (i : ℕ) (column : RawColumn)
     → map raw_kind new ≡ map raw_kind old → slice_get new i ≡ Some column
     → slice_get (map raw_kind old) i ≡ Some (raw_kind column)
@@ -60,24 +57,22 @@ kinds_kept old new i column next kinds at kind =
 pub faulty : (at_row : ℕ) (ks : List Kind) (cells : List (List ℕ)) (i : ℕ)
     (old new : List RawColumn) (k : Kind) (cell : List ℕ) (f : ReadFault)
     → HasPushed at_row ks cells i old new → slice_get ks i ≡ Some k → slice_get cells i ≡ Some cell
-    → cell_fault at_row (i + 1) k cell ≡ Some f
-    → cells_fault at_row 1 ks cells ≡ Some f
+    → cell_fault at_row (i + 1) k cell ≡ Some f → cells_fault at_row 1 ks cells ≡ Some f
 unfolding first_answer
 faulty at_row ks cells i old new k cell f h at_k at_cell e =
-    h.no_fault ∙ rw (drop_at_place ks i k at_k, drop_at_place cells i cell at_cell, e) refl
+    h.no_fault ∙ rw (drop_at_index ks i k at_k, drop_at_index cells i cell at_cell, e) refl
 
 -- the next cell has no fault
 pub more : (at_row : ℕ) (ks : List Kind) (cells : List (List ℕ)) (i : ℕ) (old new : List RawColumn)
-    (k : Kind) (cell : List ℕ) (column next : RawColumn)
-    → HasPushed at_row ks cells i old new → slice_get ks i ≡ Some k → slice_get cells i ≡ Some cell
-    → cell_fault at_row (i + 1) k cell ≡ None
-    → slice_get new i ≡ Some column → values next ≡ values column ++ value_of k cell ∷ []
-    → raw_kind next ≡ raw_kind column
+    (k : Kind) (cell : List ℕ) (column next : RawColumn) → HasPushed at_row ks cells i old new
+    → slice_get ks i ≡ Some k → slice_get cells i ≡ Some cell
+    → cell_fault at_row (i + 1) k cell ≡ None → slice_get new i ≡ Some column
+    → values next ≡ values column ++ value_of k cell ∷ [] → raw_kind next ≡ raw_kind column
     → HasPushed at_row ks cells (i + 1) old (set new i next)
 unfolding first_answer
 more at_row ks cells i old new k cell column next h at_k at_cell e at holds kind =
-    let dk = drop_at_place ks i k at_k in
-    let dc = drop_at_place cells i cell at_cell in
+    let dk = drop_at_index ks i k at_k in
+    let dc = drop_at_index cells i cell at_cell in
     let there : slice_get (extended_columns (map values old) h.pushed) i ≡ Some (values column) =
     rw (← h.columns) (slice_get-map values new i ∙ ap (option_map values) at) in
     record {

@@ -1,14 +1,8 @@
 -- What a reader of a table in pieces begins with, and answers.
-use Rattle.std.proofs.Common.{◌≡◌, ◌+◌, ◌≤◌, ◌∙◌, ℕ, List, [], ◌∷◌, ◌++◌, Bool, true, false, Option, Some, None, length, map, refl, sym, ap, inl, inr, append_assoc, arith}
-use Rattle.std.proofs.{lemmas.Bool.true≢false, lemmas.Grind.flat_map-append, lemmas.List.append-nil}
-use Rattle.std.specs.{Prelude.is_some, Prelude.MatchOption, Option.option_or}
+use Rattle.std.{proofs.Common.{◌≡◌, ◌+◌, ◌≤◌, ◌∙◌, ℕ, List, [], ◌∷◌, ◌++◌, Bool, true, false, Option, Some, None, length, map, refl, sym, ap, inl, inr, append_assoc, arith}, proofs.lemmas.Bool.true≢false, proofs.lemmas.Grind.flat_map-append, proofs.lemmas.List.append-nil, specs.Prelude.{is_some, MatchOption}, specs.Option.option_or}
 use Rattle.star_common.specs.{Memory.UnlessMemory, First.first_answer}
-use Rattle.star_schema.specs.{declared.table.TableId.TableId, Records.pieces, Records.records_in, Records.records_of, Schema.kinds_of, Tables.IsTable, Tables.row_of, Tables.rows_of}
-use Rattle.star_schema.proofs.Places.{width_few}
-use Rattle.star_reader.specs.Partway.{HasRead, IsFaultOf, IsPartway, Reading, left_fault, parts_with}
-use Rattle.star_reader.specs.{declared.column.RawColumn.RawColumn, declared.fault.ReadFault.ReadFault, declared.progress.Progress.Progress, Columns.AreColumnsOf, Columns.first_rows, Columns.values, Faults.part_fault, Faults.parts_fault, Faults.text_fault, Carried.StandsFor}
-use Rattle.star_reader.specs.{Private.Sound.IsSoundReader, declared.table_reader.TableReader.TheInside.Inside}
-use Rattle.star_reader.proofs.{Law.refused, Law.table_sound, Law.width_kinds, PieceSteps.as_wide}
+use Rattle.star_schema.{specs.declared.table.TableId.TableId, specs.Records.{pieces, records_in, records_of}, specs.Schema.kinds_of, specs.Tables.{IsTable, row_of, rows_of}, proofs.Indexes.width_few}
+use Rattle.star_reader.{specs.Partway.{HasRead, IsFaultOf, IsPartway, Reading, left_fault, parts_with}, specs.declared.column.RawColumn.RawColumn, specs.declared.fault.ReadFault.ReadFault, specs.declared.progress.Progress.Progress, specs.Columns.{AreColumnsOf, first_rows, values}, specs.Faults.{part_fault, parts_fault, text_fault}, specs.Carried.StandsFor, specs.Private.Sound.IsSoundReader, specs.declared.table_reader.TableReader.TheInside.Inside, proofs.Law.{refused, table_sound, width_kinds}, proofs.PieceSteps.as_wide}
 use Rattle.star_reader.specs.declared.fault.ReadFault.TheVariants as fault
 
 pub none_of : {X : Type 0} (o : Option X) → is_some o ≡ false → o ≡ None

@@ -1,8 +1,5 @@
 -- The rows that columns make.
-use Rattle.std.proofs.Common.{◌≡◌, ◌+◌, ◌<◌, ◌≤◌, ℕ, zero, suc, List, [], ◌∷◌, ◌++◌, Option, Some, All, length, map, take, pos, get_or, refl, sym, ap, ◌∙◌, arith, length-append}
-use Rattle.std.proofs.{Math.Seq.take-suc, Math.Seq.take-length, lemmas.List.get_or_push, lemmas.List.get_or_append_left, lemmas.List.map-append, lemmas.List.Elements.All-cons, lemmas.List.Elements.All-head, lemmas.List.Elements.All-nil, lemmas.List.Elements.All-tail}
-use Rattle.std.proofs.{lemmas.Option.slice_get-map}
-use Rattle.std.specs.{List.slice_get, Option.option_map}
+use Rattle.std.{proofs.Common.{◌≡◌, ◌+◌, ◌<◌, ◌≤◌, ℕ, zero, suc, List, [], ◌∷◌, ◌++◌, Option, Some, All, length, map, take, pos, get_or, refl, sym, ap, ◌∙◌, arith, length-append}, proofs.Math.Seq.{take-suc, take-length}, proofs.lemmas.List.{get_or_push, get_or_append_left, map-append}, proofs.lemmas.List.Elements.{All-cons, All-head, All-nil, All-tail}, proofs.lemmas.Option.slice_get-map, specs.List.slice_get, specs.Option.option_map}
 use Rattle.star_schema.specs.Tables.{Value, Number}
 use Rattle.star_reader.specs.{Columns.first_rows, Columns.row_of_columns, Private.Extended.extended_columns}
 
@@ -16,31 +13,31 @@ length-first_rows (suc n) columns =
       length-first_rows n columns,
     )
 
--- what is read of the values at a place is read of the values of the column there
+-- what is read of the values at a position is read of the values of the column there
 read_first : {X : Type 0} (read : Option Value → X) (n : ℕ) (columns : List (List Value))
-    (place : ℕ) (column : List Value) → n ≤ length column → slice_get columns place ≡ Some column
-    → map (λ row. read (slice_get row place)) (first_rows n columns)
+    (index : ℕ) (column : List Value) → n ≤ length column → slice_get columns index ≡ Some column
+    → map (λ row. read (slice_get row index)) (first_rows n columns)
     ≡ map (λ value. read (Some value)) (take n column)
 unfolding first_rows
-read_first read zero columns place column h at = refl
-read_first read (suc n) columns place column h at =
-    let last : slice_get (row_of_columns columns n) place
+read_first read zero columns index column h at = refl
+read_first read (suc n) columns index column h at =
+    let last : slice_get (row_of_columns columns n) index
     ≡ Some (get_or column n (Number (pos 0))) =
-    slice_get-map (λ (c : List Value). get_or c n (Number (pos 0))) columns place
+    slice_get-map (λ (c : List Value). get_or c n (Number (pos 0))) columns index
     ∙ ap (option_map (λ (c : List Value). get_or c n (Number (pos 0)))) at in
-    map-append (λ (row : List Value). read (slice_get row place)) (first_rows n columns)
+    map-append (λ (row : List Value). read (slice_get row index)) (first_rows n columns)
     (row_of_columns columns n ∷ [])
-    ∙ rw (read_first read n columns place column (omega arith) at, last)
+    ∙ rw (read_first read n columns index column (omega arith) at, last)
     (sym (ap (map (λ (value : Value). read (Some value)))
     (take-suc column n (Number (pos 0)) (omega arith))
     ∙ map-append (λ (value : Value). read (Some value)) (take n column) (_ ∷ [])))
 
 pub read_there : {X : Type 0} (read : Option Value → X) (n : ℕ) (columns : List (List Value))
-    (place : ℕ) (column : List Value) → length column ≡ n → slice_get columns place ≡ Some column
-    → map (λ row. read (slice_get row place)) (first_rows n columns)
+    (index : ℕ) (column : List Value) → length column ≡ n → slice_get columns index ≡ Some column
+    → map (λ row. read (slice_get row index)) (first_rows n columns)
     ≡ map (λ value. read (Some value)) column
-read_there read n columns place column all at =
-    read_first read n columns place column (omega arith) at
+read_there read n columns index column all at =
+    read_first read n columns index column (omega arith) at
     ∙ ap (map (λ (value : Value). read (Some value)))
     (ap (λ m. take m column) (sym all) ∙ take-length column)
 

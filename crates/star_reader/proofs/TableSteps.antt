@@ -1,14 +1,9 @@
 -- One more record of a table.
-use Rattle.std.proofs.Common.{◌≡◌, ◌+◌, ◌<◌, ◌≤◌, ℕ, List, [], ◌∷◌, All, ◌++◌, true, false, Some, None, Result, Ok, Err, MatchResult, length, map, refl, sym, ◌∙◌, inl, inr, arith, append_assoc}
-use Rattle.std.proofs.lemmas.Bool.{and_parts, cases_Bool, eqb-true, le-ltb, lt-ltb, true≢false}
-use Rattle.std.proofs.{Math.ListN.get_or-map, lemmas.List.length-map, lemmas.List.Elements.All-map}
-use Rattle.std.specs.{Prelude.◌==◌, Prelude.filter, Prelude.nat_eq, List.starts_with}
+use Rattle.std.{proofs.Common.{◌≡◌, ◌+◌, ◌<◌, ◌≤◌, ℕ, List, [], ◌∷◌, All, ◌++◌, true, false, Some, None, Result, Ok, Err, MatchResult, length, map, refl, sym, ◌∙◌, inl, inr, arith, append_assoc}, proofs.lemmas.Bool.{and_parts, cases_Bool, eqb-true, le-ltb, lt-ltb, true≢false}, proofs.Math.ListN.get_or-map, proofs.lemmas.List.length-map, proofs.lemmas.List.Elements.All-map, specs.Prelude.{◌==◌, filter, nat_eq}, specs.List.starts_with}
 use Rattle.csv.specs.Reading.{is_bom, strip_bom}
 use Rattle.star_schema.specs.{declared.table.TableId.TableId, Records.fields_of, Records.is_filled, Schema.kinds_of, Tables.Value, Tables.cells_of, Tables.row_of, Tables.values_of}
 use Rattle.star_common.specs.First.{first_answer}
-use Rattle.star_reader.specs.{declared.column.RawColumn.RawColumn, declared.fault.ReadFault.ReadFault, Columns.AreColumnsOf, Columns.first_rows, Columns.raw_kind, Columns.values, Private.Extended.extended_columns, Faults.byte_order_mark, Faults.record_fault, Faults.records_fault}
-use Rattle.star_reader.specs.{Private.Steps.AddsRecord, Private.Steps.HasAdded, Private.Steps.HasRows}
-use Rattle.star_reader.proofs.{Law.width_kinds, RowLemmas.extended_full, RowLemmas.first_rows-extended}
+use Rattle.star_reader.{specs.declared.column.RawColumn.RawColumn, specs.declared.fault.ReadFault.ReadFault, specs.Columns.{AreColumnsOf, first_rows, raw_kind, values}, specs.Private.Extended.extended_columns, specs.Faults.{byte_order_mark, record_fault, records_fault}, specs.Private.Steps.{AddsRecord, HasAdded, HasRows}, proofs.Law.width_kinds, proofs.RowLemmas.{extended_full, first_rows-extended}}
 use Rattle.star_reader.specs.declared.fault.ReadFault.TheVariants as fault
 
 -- a text with no byte order mark has none to take off

@@ -1,19 +1,15 @@
 -- The first faults of small texts in parts, and texts that come in pieces.
-use Rattle.std.proofs.Common.{◌≡◌, ℕ, List, [], ◌∷◌, Some, None, true, false, refl}
-use Rattle.std.specs.Prelude.{◌++◌, codes}
-use Rattle.star_common.specs.First.{first_answer}
-use Rattle.star_common.proofs.Tables.{Gives, Gives2}
+use Rattle.std.{proofs.Common.{◌≡◌, ℕ, List, [], ◌∷◌, Some, None, true, false, refl}, specs.Prelude.{◌++◌, codes}}
+use Rattle.star_common.{specs.First.first_answer, proofs.Tables.{Gives, Gives2}}
 use Rattle.star_schema.specs.{Records.pieces, Schema.column_of, Schema.columns_of, declared.table.TableId.TheVariants.Customer, declared.table.TableId.TheVariants.Supplier}
-use Rattle.star_reader.specs.declared.fault.ReadFault.TheVariants.{BadByte, BadNumber, ByteOrderMark, FieldCount, TooManyRows}
-use Rattle.star_reader.specs.Faults.{byte_order_mark, part_fault, parts_fault, record_fault, text_fault}
-use Rattle.star_reader.specs.{Partway.left_fault, Partway.parts_with, Pieces.ended_of, Pieces.open_of, Pieces.records_from}
+use Rattle.star_reader.specs.{declared.fault.ReadFault.TheVariants.{BadByte, BadNumber, ByteOrderMark, FieldCount, TooManyRows}, Faults.{byte_order_mark, part_fault, parts_fault, record_fault, text_fault}, Partway.{left_fault, parts_with}, Pieces.{ended_of, open_of, records_from}}
 
 abbrev line : List ℕ
 line = codes "7|n|a|c|u|r|p|m|"
 
--- records count through the parts, and end with them; the limit is that of all parts; the mark of a part
--- comes before its records, and after the faults of the parts before; after a line end its first byte is
--- a bad one
+-- records count through the parts, and end with them; the limit is that of all parts; the mark of a
+-- part comes before its records, and after the faults of the parts before; after a line end its
+-- first byte is a bad one
 parts : Gives2 (text_fault Customer) (
     (0, [], None) ∷ (0, [] ∷ [] ∷ [], None) ∷ (2, line ∷ [] ∷ line ∷ [], None)
     ∷ (9, line ∷ line ∷ codes "x|n|a|c|u|r|p|m|" ∷ [], Some (BadNumber 3 1))

@@ -1,6 +1,5 @@
 -- The record that a piece of a text leaves open: the bytes that a reader keeps of it.
-use Rattle.std.specs.Prelude.{◌≡◌, ◌+◌, ◌≤◌, ◌++◌, ◌∷◌, if◌then◌else◌, Bool, not, ℕ, List, [], None, length, nat_eq}
-use Rattle.std.specs.{List.starts_with}
+use Rattle.std.specs.{Prelude.{◌≡◌, ◌+◌, ◌≤◌, ◌++◌, ◌∷◌, if◌then◌else◌, Bool, not, ℕ, List, [], None, length, nat_eq}, List.starts_with}
 use Rattle.star_schema.specs.{declared.column.Kind.Kind, Records.ends_line, Records.fields_of, Records.is_bar, Records.is_filled, Tables.cells_of, Tables.values_of}
 use Rattle.star_reader.specs.{declared.open_line.OpenLine.OpenLine, Faults.byte_order_mark, Faults.record_fault}
 

@@ -12,7 +12,7 @@ abbrev pub values : RawColumn → List Value
 values (Numbers numbers) = map Number numbers
 values (Texts texts) = map Text texts
 
--- the row at a place of columns of one length
+-- the row at a position of columns of one length
 abbrev pub row_of_columns : List (List Value) → ℕ → List Value
 row_of_columns columns i = map (λ column. slice_index_or column i (Number (pos 0))) columns
 

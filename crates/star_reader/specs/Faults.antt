@@ -1,6 +1,5 @@
 -- The first fault of a text that is no table.
-use Rattle.std.specs.Prelude.{◌∷◌, ◌+◌, ◌==◌, if◌then◌else◌, not, ℕ, List, [], Option, Some, None, length, nat_eq, nat_lt}
-use Rattle.std.specs.{List.enumerate_from, List.list_all, List.starts_with, List.zip, Option.option_or}
+use Rattle.std.specs.{Prelude.{◌∷◌, ◌+◌, ◌==◌, if◌then◌else◌, not, ℕ, List, [], Option, Some, None, length, nat_eq, nat_lt}, List.{enumerate_from, list_all, starts_with, zip}, Option.option_or}
 use Rattle.star_schema.specs.{declared.table.TableId.TableId, declared.column.Kind.Kind, Records.fields_of, Records.records_of, Schema.kinds_of, Tables.cells_of, Tables.is_of_kind, Tables.is_short}
 use Rattle.star_common.specs.{First.first_answer, Printable.is_printable}
 use Rattle.star_reader.specs.declared.fault.ReadFault.{ReadFault}

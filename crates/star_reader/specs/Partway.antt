@@ -1,10 +1,8 @@
 -- How far a table has been read whose text comes in pieces.
-use Rattle.std.specs.Prelude.{◌≡◌, ◌≤◌, ◌+◌, ◌++◌, ◌∷◌, if◌then◌else◌, Bool, true, ℕ, List, [], Option, Some, MatchOption, length, map}
-use Rattle.std.specs.{List.list_all, Option.option_or}
+use Rattle.std.specs.{Prelude.{◌≡◌, ◌≤◌, ◌+◌, ◌++◌, ◌∷◌, if◌then◌else◌, Bool, true, ℕ, List, [], Option, Some, MatchOption, length, map}, List.list_all, Option.option_or}
 use Rattle.star_common.specs.Memory.{UnlessMemory}
 use Rattle.star_schema.specs.{declared.table.TableId.TableId, Records.records_in, Records.records_of, Schema.kinds_of, Tables.row_of}
-use Rattle.star_reader.specs.{declared.column.RawColumn.RawColumn, declared.fault.ReadFault.ReadFault, declared.fault.ReadFault.TheVariants.OutOfMemory, declared.progress.Progress.Progress, Columns.AreColumnsOf, Columns.first_rows, Columns.values, Faults.part_fault, Faults.parts_fault}
-use Rattle.star_reader.specs.{Faults.records_fault, Faults.text_fault, Carried.is_inner, Carried.StandsFor}
+use Rattle.star_reader.specs.{declared.column.RawColumn.RawColumn, declared.fault.ReadFault.ReadFault, declared.fault.ReadFault.TheVariants.OutOfMemory, declared.progress.Progress.Progress, Columns.{AreColumnsOf, first_rows, values}, Faults.{part_fault, parts_fault, records_fault, text_fault}, Carried.{is_inner, StandsFor}}
 
 -- the first fault of the rest of a part: of all of it, or of the records after a line end
 abbrev pub left_fault : (is_start : Bool) → TableId → ℕ → ℕ → List ℕ → Option ReadFault

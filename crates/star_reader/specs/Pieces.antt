@@ -1,6 +1,6 @@
--- How a text that comes in pieces falls into records: what a piece leaves open goes on with the next.
-use Rattle.std.specs.Prelude.{◌++◌, ◌∷◌, ◌+◌, if◌then◌else◌, ℕ, List, [], Option, length}
-use Rattle.std.specs.{List.flat_map, List.list_any, Option.option_or}
+-- How a text that comes in pieces falls into records: what a piece leaves open goes on with the
+-- next.
+use Rattle.std.specs.{Prelude.{◌++◌, ◌∷◌, ◌+◌, if◌then◌else◌, ℕ, List, [], Option, length}, List.{flat_map, list_any}, Option.option_or}
 use Rattle.star_schema.specs.{declared.table.TableId.TableId, Records.ends_line, Records.records_of}
 use Rattle.star_reader.specs.{declared.fault.ReadFault.ReadFault, Faults.records_fault}
 

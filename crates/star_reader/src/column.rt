@@ -22,8 +22,7 @@ pub enum RawColumn {
 
 // The fault of a cell of a column of texts, if it has one.
 fn check_text(at_row: u32, field: usize, cell: &[u8]) -> Result<(), ReadFault>
-    ensures { MatchResult result
-        (λ _. cell_fault at_row field Kind.Text cell.now ≡ None)
+    ensures { MatchResult result (λ _. cell_fault at_row field Kind.Text cell.now ≡ None)
         (λ fault. cell_fault at_row field Kind.Text cell.now ≡ Some fault) }
 {
     if cell.len() > 255 {

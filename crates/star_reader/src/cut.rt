@@ -1,7 +1,6 @@
-// The place of the lines in a piece of a text.
+// The position of the lines in a piece of a text.
 
-ghost use Rattle.std.specs.Prelude.{◌≡◌, ◌<◌, ◌≤◌, ◌-◌, MatchOption, true, drop, get_or, length, take};
-ghost use Rattle.std.specs.{List.list_all};
+ghost use Rattle.std.specs.{Prelude.{◌≡◌, ◌<◌, ◌≤◌, ◌-◌, MatchOption, true, drop, get_or, length, take}, List.list_all};
 ghost use Rattle.star_schema.specs.Records.{ends_line};
 ghost use Rattle.star_reader.specs.{Carried.is_inner, Private.Cut.AreLinesOf};
 
@@ -44,22 +43,21 @@ fn is_end(byte: u8) -> bool
     byte == b'\r' || byte == b'\n'
 }
 
-// The place of the first line end, if there is one.
+// The position of the first line end, if there is one.
 fn first_end(piece: &[u8]) -> Option<usize>
     ensures { MatchOption result (list_all is_inner piece.now ≡ true)
-        (λ first. (first < length piece.now)
-        × (list_all is_inner (take first piece.now) ≡ true)
+        (λ first. (first < length piece.now) × (list_all is_inner (take first piece.now) ≡ true)
         × (ends_line (get_or piece.now first 0) ≡ true)) }
 {
-    for place in 0..piece.len() {
-        if is_end(piece[place]) {
-            return Some(place);
+    for index in 0..piece.len() {
+        if is_end(piece[index]) {
+            return Some(index);
         }
     }
     None
 }
 
-// The place after the last line end, and 0 if there is none.
+// The position after the last line end, and 0 if there is none.
 fn behind_last_end(piece: &[u8]) -> usize
     ensures within { result ≤ length piece.now }
     ensures tail { list_all is_inner (drop result piece.now) ≡ true }

@@ -1,7 +1,6 @@
 // The first field of the rest of a line.
 
-ghost use Rattle.std.specs.Prelude.{◌≡◌, ◌+◌, ◌<◌, ◌≤◌, ◌^◌, ◌&&◌, if◌then◌else◌, ℕ, None, Some, MatchOption, false, true, length, map, not, take};
-ghost use Rattle.std.specs.{List.list_all, List.prefix_len, Simd.Lanes.mask_l, Str.Parse.digits_value};
+ghost use Rattle.std.specs.{Prelude.{◌≡◌, ◌+◌, ◌<◌, ◌≤◌, ◌^◌, ◌&&◌, if◌then◌else◌, ℕ, None, Some, MatchOption, false, true, length, map, not, take}, List.{list_all, prefix_len}, Simd.Lanes.mask_l, Str.Parse.digits_value};
 ghost use Rattle.star_common.specs.{Numerals.is_numeral, Printable.is_printable};
 ghost use Rattle.star_reader.specs.Private.Fronts.{IsEndOf, IsFront, is_stop};
 ghost use Rattle.star_schema.specs.Tables as spec;
@@ -26,8 +25,7 @@ pub(crate) struct Number {
     pub(crate) count: usize,
 }
 
-// The digit that a byte writes, and a number past 9 if it writes none: one comparison shows
-// which.
+// The digit that a byte writes, and a number past 9 if it writes none: one comparison shows which.
 #[inline(always)]
 fn digit_of(byte: u8) -> u64
     ensures { result ≤ 9 → result + 48 ≡ byte }
@@ -98,11 +96,9 @@ pub(crate) fn number_front(text: &[u8]) -> Option<Number>
 // What `text_front` does, byte by byte.
 #[inline(never)]
 fn slow_front(text: &[u8]) -> Option<usize>
-    ensures { MatchOption result
-        ((count : ℕ) → IsFront text.now count
-        → (spec.is_short (take count text.now)
-        && list_all is_printable (take count text.now)) ≡ false)
-        (λ count. IsFront text.now count × (spec.is_short (take count text.now) ≡ true)
+    ensures { MatchOption result ((count : ℕ) → IsFront text.now count
+        → (spec.is_short (take count text.now) && list_all is_printable (take count text.now))
+        ≡ false) (λ count. IsFront text.now count × (spec.is_short (take count text.now) ≡ true)
         × (list_all is_printable (take count text.now) ≡ true)) }
 {
     let most = text.len().min(256);
@@ -168,11 +164,9 @@ fn near_end(line: &[u8], text: &[u8]) -> usize
 #[inline(always)]
 pub(crate) fn text_front(line: &[u8], text: &[u8]) -> Option<usize>
     requires { IsEndOf line.now text.now }
-    ensures { MatchOption result
-        ((count : ℕ) → IsFront text.now count
-        → (spec.is_short (take count text.now)
-        && list_all is_printable (take count text.now)) ≡ false)
-        (λ count. IsFront text.now count × (spec.is_short (take count text.now) ≡ true)
+    ensures { MatchOption result ((count : ℕ) → IsFront text.now count
+        → (spec.is_short (take count text.now) && list_all is_printable (take count text.now))
+        ≡ false) (λ count. IsFront text.now count × (spec.is_short (take count text.now) ≡ true)
         × (list_all is_printable (take count text.now) ≡ true)) }
 {
     if text.len() >= NEAR {

@@ -13,13 +13,13 @@ use crate::record::push_record;
 use csv::ByteRecord;
 use std::alloc::{AllocError, Global};
 
-// The bytes of a line from a place on.
+// The bytes of a line from a position on.
 #[inline(always)]
-fn from(line: &[u8], place: usize) -> &[u8]
-    requires { place ≤ length line.now }
-    ensures { result.now ≡ drop place line.now }
+fn from(line: &[u8], index: usize) -> &[u8]
+    requires { index ≤ length line.now }
+    ensures { result.now ≡ drop index line.now }
 {
-    &line[place..]
+    &line[index..]
 }
 
 // Adds the values of a line to the columns of its table, if it is a record of them, and returns
@@ -33,14 +33,14 @@ fn push_line(columns: &mut [RawColumn], line: &[u8]) -> Result<bool, AllocError>
     ensures kinds { map raw_kind columns.new ≡ map raw_kind columns.old }
 {
     let mut rest = line;
-    for place in 0..columns.len() {
-        let column = &mut columns[place];
+    for index in 0..columns.len() {
+        let column = &mut columns[index];
         let count = match column.push_front(line, rest)? {
             Some(count) => count,
             None => return Ok(false),
         };
         if count >= rest.len() {
-            return Ok(place + 1 == columns.len());
+            return Ok(index + 1 == columns.len());
         }
         rest = from(rest, count + 1);
     }

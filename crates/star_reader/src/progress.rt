@@ -1,11 +1,9 @@
 // How far a table has been read whose text comes in pieces.
 
-ghost use Rattle.std.specs.Prelude.{◌≡◌, ◌<◌, ◌≤◌, ◌+◌, ◌++◌, ◌∷◌, ◌&&◌, ℕ, List, [], None, Some, OnOk, MatchResult, filter, length, map, nat_eq, true};
-ghost use Rattle.std.specs.{List.list_all, List.starts_with};
+ghost use Rattle.std.specs.{Prelude.{◌≡◌, ◌<◌, ◌≤◌, ◌+◌, ◌++◌, ◌∷◌, ◌&&◌, ℕ, List, [], None, Some, OnOk, MatchResult, filter, length, map, nat_eq, true}, List.{list_all, starts_with}};
 ghost use Rattle.star_common.specs.Memory.{UnlessMemory};
 ghost use Rattle.star_schema.specs.{Records.is_filled, Schema.kinds_of, declared.table.TableId.TableId};
-ghost use Rattle.star_reader.specs.{Columns.AreColumnsOf, Columns.first_rows, Columns.values, Faults.byte_order_mark, Faults.records_fault, Partway.IsFaultOf, Partway.IsPartway, Partway.left_fault, Carried.is_inner, Carried.StandsFor, Private.Cut.EndsInLineEnd, Private.Cut.IsBegun};
-ghost use Rattle.star_reader.specs.{Private.Ended.HasEnded, Private.Steps.HasRows};
+ghost use Rattle.star_reader.specs.{Columns.{AreColumnsOf, first_rows, values}, Faults.{byte_order_mark, records_fault}, Partway.{IsFaultOf, IsPartway, left_fault}, Carried.{is_inner, StandsFor}, Private.Cut.{EndsInLineEnd, IsBegun}, Private.Ended.HasEnded, Private.Steps.HasRows};
 
 use crate::column::RawColumn;
 use crate::cut::lines_of;

@@ -1,10 +1,8 @@
 // A table as it was read.
 
-ghost use Rattle.std.specs.Prelude.{◌≡◌, ◌<◌, ◌∷◌, ℕ, [], Some, IfOk, IfErr, length, map, slice_get};
-ghost use Rattle.std.specs.{Option.option_map};
+ghost use Rattle.std.specs.{Prelude.{◌≡◌, ◌<◌, ◌∷◌, ℕ, [], Some, IfOk, IfErr, length, map, slice_get}, Option.option_map};
 ghost use Rattle.star_common.specs.Memory.{UnlessMemory};
-ghost use Rattle.star_schema.specs.Tables.{IsTable, Number, Text, rows_of, value_at};
-ghost use Rattle.star_schema.specs.{Bounds.numbers_at, Schema.kinds_of, declared.table.TableId.TableId, Texts.texts_at};
+ghost use Rattle.star_schema.specs.{Tables.{IsTable, Number, Text, rows_of, value_at}, Bounds.numbers_at, Schema.kinds_of, declared.table.TableId.TableId, Texts.texts_at};
 ghost use Rattle.star_reader.specs.{Columns.AreColumnsOf, Columns.first_rows, Columns.values, Faults.text_fault};
 
 use crate::column::RawColumn;
@@ -66,44 +64,44 @@ impl RawTable {
         self.rows
     }
 
-    /// The number at a row and a place, both from 0, of a column of numbers.
-    pub fn number(&self, row: u32, place: usize) -> i64
+    /// The number at a row and a position, both from 0, of a column of numbers.
+    pub fn number(&self, row: u32, index: usize) -> i64
         requires row { row < length self.now.rows }
-        requires place { slice_get (kinds_of self.now.table) place ≡ Some Kind.Number }
-        ensures { value_at self.now.rows row place ≡ Some (Number result) }
+        requires index { slice_get (kinds_of self.now.table) index ≡ Some Kind.Number }
+        ensures { value_at self.now.rows row index ≡ Some (Number result) }
     {
-        self.numbers(place).get(row as usize)
+        self.numbers(index).get(row as usize)
     }
 
     /// The numbers of a column of numbers, in the order of the rows.
-    pub fn numbers(&self, place: usize) -> &FlatNumbers
-        requires { slice_get (kinds_of self.now.table) place ≡ Some Kind.Number }
-        ensures numbers { result.now ≡ numbers_at place self.now.rows }
+    pub fn numbers(&self, index: usize) -> &FlatNumbers
+        requires { slice_get (kinds_of self.now.table) index ≡ Some Kind.Number }
+        ensures numbers { result.now ≡ numbers_at index self.now.rows }
         ensures values { (row : ℕ)
-            → value_at self.now.rows row place ≡ option_map Number (slice_get result.now row) }
+            → value_at self.now.rows row index ≡ option_map Number (slice_get result.now row) }
     {
-        match &self.columns[place] {
+        match &self.columns[index] {
             RawColumn::Numbers(numbers) => numbers,
             RawColumn::Texts(_) => unreachable!(),
         }
     }
 
-    /// The text at a row and a place, both from 0, of a column of texts.
-    pub fn text(&self, row: u32, place: usize) -> &[u8]
+    /// The text at a row and a position, both from 0, of a column of texts.
+    pub fn text(&self, row: u32, index: usize) -> &[u8]
         requires row { row < length self.now.rows }
-        requires place { slice_get (kinds_of self.now.table) place ≡ Some Kind.Text }
-        ensures { value_at self.now.rows row place ≡ Some (Text result.now) }
+        requires index { slice_get (kinds_of self.now.table) index ≡ Some Kind.Text }
+        ensures { value_at self.now.rows row index ≡ Some (Text result.now) }
     {
-        self.texts(place).get(row as usize)
+        self.texts(index).get(row as usize)
     }
 
-    fn texts(&self, place: usize) -> &RepeatedTexts
-        requires { slice_get (kinds_of self.now.table) place ≡ Some Kind.Text }
-        ensures texts { result.now ≡ texts_at place self.now.rows }
+    fn texts(&self, index: usize) -> &RepeatedTexts
+        requires { slice_get (kinds_of self.now.table) index ≡ Some Kind.Text }
+        ensures texts { result.now ≡ texts_at index self.now.rows }
         ensures values { (row : ℕ)
-            → value_at self.now.rows row place ≡ option_map Text (slice_get result.now row) }
+            → value_at self.now.rows row index ≡ option_map Text (slice_get result.now row) }
     {
-        match &self.columns[place] {
+        match &self.columns[index] {
             RawColumn::Texts(texts) => texts,
             RawColumn::Numbers(_) => unreachable!(),
         }
@@ -128,8 +126,7 @@ pub fn read_parts(
     table: TableId,
     limits: Limits,
 ) -> Result<RawTable, ReadFault>
-    ensures read { IfOk result
-        (λ raw. IsTable table limits.rows (map (λ part. part.now) parts.now)
+    ensures read { IfOk result (λ raw. IsTable table limits.rows (map (λ part. part.now) parts.now)
         × (raw.table ≡ table) × (raw.rows ≡ rows_of table (map (λ part. part.now) parts.now))) }
     ensures refused { IfErr result
         (λ fault. UnlessMemory ReadFault.OutOfMemory fault
@@ -147,13 +144,11 @@ pub fn read_table(
     table: TableId,
     limits: Limits,
 ) -> Result<RawTable, ReadFault>
-    ensures read { IfOk result
-        (λ raw. IsTable table limits.rows (text.now ∷ []) × (raw.table ≡ table)
-        × (raw.rows ≡ rows_of table (text.now ∷ []))) }
-    ensures refused { IfErr result
-        (λ fault. UnlessMemory ReadFault.OutOfMemory fault
-        ((text_fault table limits.rows (text.now ∷ []) ≡ Some fault)
-        × ¬ IsTable table limits.rows (text.now ∷ []))) }
+    ensures read { IfOk result (λ raw. IsTable table limits.rows (text.now ∷ [])
+        × (raw.table ≡ table) × (raw.rows ≡ rows_of table (text.now ∷ []))) }
+    ensures refused { IfErr result (λ fault.
+        UnlessMemory ReadFault.OutOfMemory fault ((text_fault table limits.rows (text.now ∷ [])
+        ≡ Some fault) × ¬ IsTable table limits.rows (text.now ∷ []))) }
 {
     read_parts(alloc, &[text], table, limits)
 }

@@ -1,7 +1,6 @@
 // One record of a table.
 
-ghost use Rattle.std.specs.Prelude.{◌≡◌, ◌≤◌, None, Some, length, map, slice_get, MatchResult};
-ghost use Rattle.std.specs.{Option.option_copied};
+ghost use Rattle.std.specs.{Prelude.{◌≡◌, ◌≤◌, None, Some, length, map, slice_get, MatchResult}, Option.option_copied};
 ghost use Rattle.star_common.specs.Memory.{UnlessMemory};
 ghost use Rattle.csv.specs.Records.{fields_of as fields_read};
 ghost use Rattle.star_reader.specs.{Columns.raw_kind, Columns.values, Faults.record_fault, Private.Extended.extended_columns};
@@ -11,11 +10,11 @@ use crate::column::RawColumn;
 use crate::fault::ReadFault;
 use csv::ByteRecord;
 
-/// The field at a place, from 0, if there is one.
-pub(crate) fn field_at(line: &ByteRecord, place: usize) -> Option<&[u8]>
-    ensures { option_copied result ≡ slice_get (fields_read line.now) place }
+/// The field at a position, from 0, if there is one.
+pub(crate) fn field_at(line: &ByteRecord, index: usize) -> Option<&[u8]>
+    ensures { option_copied result ≡ slice_get (fields_read line.now) index }
 {
-    line.get(place)
+    line.get(index)
 }
 
 // Whether a record has an empty field after the last column's.
@@ -59,11 +58,11 @@ pub(crate) fn push_record(
     if cell_count(line, columns.len()) != columns.len() {
         return Err(ReadFault::FieldCount { at_row });
     }
-    for place in 0..columns.len() {
-        match field_at(line, place) {
+    for index in 0..columns.len() {
+        match field_at(line, index) {
             Some(field) => {
-                let column = &mut columns[place];
-                column.push_cell(at_row, place + 1, field)?;
+                let column = &mut columns[index];
+                column.push_cell(at_row, index + 1, field)?;
             }
             None => unreachable!(),
         }

@@ -32,8 +32,8 @@ fn add_lines(
         (records_fault table most (from + 1) all ≡ Some fault)) }
 {
     let mut rows = start;
-    for place in 0..lines.len() {
-        match field_at(lines, place) {
+    for index in 0..lines.len() {
+        match field_at(lines, index) {
             Some(line) => rows = add_row(alloc, columns, line, rows, most)?,
             None => unreachable!(),
         }
@@ -54,8 +54,7 @@ fn read_records(
     requires { length columns.old ≤ 17 }
     ensures { (table : TableId) (before : List (List Value)) (all left : List (List ℕ))
         → HasLeft reader.old left → HasAdded table most start before all left start columns.old
-        → MatchResult result
-        (λ rows. HasAdded table most start before all [] rows columns.new)
+        → MatchResult result (λ rows. HasAdded table most start before all [] rows columns.new)
         (λ fault. UnlessMemory ReadFault.OutOfMemory fault
         (records_fault table most (start + 1) all ≡ Some fault)) }
 {
@@ -73,7 +72,7 @@ fn read_records(
 // reads, and one in mid-text has to stay.
 /// Adds the rows of lines, which begin with a line end, to the columns of a table with `rows` rows,
 /// and says how many there are then. After a fault the columns may differ in length. The reader is
-/// let go here, at one place.
+/// let go here, at one position.
 pub(crate) fn read_lines(
     alloc: Global,
     lines: &[u8],

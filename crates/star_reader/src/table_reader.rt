@@ -18,19 +18,19 @@ fn empty_columns(alloc: Global, table: TableId) -> Result<Vec<RawColumn>, AllocE
     ensures { IfOk result (λ columns. AreColumnsOf table 0 columns.items) }
 {
     let mut empty = Vec::with_capacity(alloc, width(table))?;
-    for place in 0..width(table) {
-        let column = column_at(table, place);
+    for index in 0..width(table) {
+        let column = column_at(table, index);
         empty.push(RawColumn::new(alloc, kind_of(column)))?;
     }
     Ok(empty)
 }
 
-// The part at a place.
-fn part_at<'a>(parts: &[&'a [u8]], place: usize) -> &'a [u8]
-    requires { place < length parts.now }
-    ensures { slice_get (map (λ part. part.now) parts.now) place ≡ Some result.now }
+// The part at a position.
+fn part_at<'a>(parts: &[&'a [u8]], index: usize) -> &'a [u8]
+    requires { index < length parts.now }
+    ensures { slice_get (map (λ part. part.now) parts.now) index ≡ Some result.now }
 {
-    parts[place]
+    parts[index]
 }
 
 /// Reads a table whose text comes in pieces, which may be cut anywhere: in mid-record, in
@@ -49,8 +49,7 @@ pub struct TableReader {
 }
 
 impl Model for TableReader {
-    ghost use Rattle.star_reader.specs.Partway.{Reading};
-    ghost use Rattle.star_reader.specs.Private.Sound.{reading_of, IsSoundReader};
+    ghost use Rattle.star_reader.specs.{Partway.Reading, Private.Sound.{reading_of, IsSoundReader}};
 
     ghost Value = { Reading };
 
@@ -87,8 +86,8 @@ impl TableReader {
             (λ reader. HasRead reader table limits.rows (map (λ part. part.now) parts.now) []) }
     {
         let mut reader = TableReader::new(alloc, table, limits)?;
-        for place in 0..parts.len() {
-            reader.feed(alloc, part_at(parts, place));
+        for index in 0..parts.len() {
+            reader.feed(alloc, part_at(parts, index));
             reader.end_part(alloc);
         }
         Ok(reader)

@@ -1,12 +1,9 @@
 -- What is printed of a cell tells which cell it is, among those of its column.
-use Rattle.std.proofs.Common.{◌≡◌, ◌<◌, ◌&&◌, ◌||◌, ℕ, Bool, true, false, IsTrue, not, List, [], ◌∷◌, ap, arith, codes, refl, subst, sym}
-use Rattle.std.specs.Char.{digit_value}
+use Rattle.std.{proofs.Common.{◌≡◌, ◌<◌, ◌&&◌, ◌||◌, ℕ, Bool, true, false, IsTrue, not, List, [], ◌∷◌, ap, arith, codes, refl, subst, sym}, specs.Char.digit_value}
 use Rattle.star_schema.specs.Records.{ends_line, is_bar}
 use Rattle.star_program.specs.declared.outcome.Cell.{Cell}
 use Rattle.star_program.specs.declared.outcome.Cell.TheVariants as cell
-use Rattle.star_report.specs.Columns.{ColumnKind, NumberKey, TextKey, Total, IsCellOfKind, is_field}
-use Rattle.star_report.specs.Report.{cell_text}
-use Rattle.star_report.proofs.{Bytes.Lacks, Numbers.number_lacks, Numbers.number_no_all, Numbers.number_no_null, Numbers.number_same, Quotes.text_apart, Quotes.text_lacks, Quotes.text_same}
+use Rattle.star_report.{specs.Columns.{ColumnKind, NumberKey, TextKey, Total, IsCellOfKind, is_field}, specs.Report.cell_text, proofs.Bytes.Lacks, proofs.Numbers.{number_lacks, number_no_all, number_no_null, number_same}, proofs.Quotes.{text_apart, text_lacks, text_same}}
 
 both : (p q : Bool) → IsTrue (p && q) → IsTrue p × IsTrue q
 both true true h = (h, h)

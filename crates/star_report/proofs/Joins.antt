@@ -1,7 +1,5 @@
 -- Fields in a row, with a byte between each two.
-use Rattle.std.proofs.Common.{◌≡◌, ◌≤◌, ◌++◌, ◌-◌, ℕ, List, [], ◌∷◌, ap, arith, drop, get_or, length, map, sym, take}
-use Rattle.std.specs.List.{flat_map, join_with_byte}
-use Rattle.std.proofs.lemmas.List.{append-nil}
+use Rattle.std.{proofs.Common.{◌≡◌, ◌≤◌, ◌++◌, ◌-◌, ℕ, List, [], ◌∷◌, ap, arith, drop, get_or, length, map, sym, take}, specs.List.{flat_map, join_with_byte}, proofs.lemmas.List.append-nil}
 use Rattle.star_common.proofs.Sends.{rest_of}
 
 -- the first, and each other one after the byte

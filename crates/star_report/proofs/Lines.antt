@@ -1,10 +1,7 @@
 -- The text of rows tells which rows they are.
-use Rattle.std.proofs.Common.{◌≡◌, ◌++◌, ◌∙◌, ℕ, List, [], ◌∷◌, ap, append_assoc, arith, length, length-append, map, refl, sym}
-use Rattle.std.specs.List.{AllZip, flat_map, join_with_byte}
-use Rattle.std.proofs.lemmas.List.{append_cancel_left, Elements.All-head, Elements.All-tail}
+use Rattle.std.{proofs.Common.{◌≡◌, ◌++◌, ◌∙◌, ℕ, List, [], ◌∷◌, ap, append_assoc, arith, length, length-append, map, refl, sym}, specs.List.{AllZip, flat_map, join_with_byte}, proofs.lemmas.List.append_cancel_left, proofs.lemmas.List.Elements.{All-head, All-tail}}
 use Rattle.star_program.specs.declared.outcome.Cell.{Cell}
-use Rattle.star_report.specs.{Columns.AreRowsOf, Columns.ColumnKind, Columns.IsCellOfKind, Report.cell_text, Report.line_text, Report.report_text, Report.row_text}
-use Rattle.star_report.proofs.{Bytes.Lacks, Bytes.Lacks-append, Bytes.split_first, Cells.cell_lacks_bar, Cells.cell_lacks_end, Cells.cell_same}
+use Rattle.star_report.{specs.Columns.{AreRowsOf, ColumnKind, IsCellOfKind}, specs.Report.{cell_text, line_text, report_text, row_text}, proofs.Bytes.{Lacks, Lacks-append, split_first}, proofs.Cells.{cell_lacks_bar, cell_lacks_end, cell_same}}
 
 abbrev fields_text : List Cell → List ℕ
 fields_text row = join_with_byte 124 (map cell_text row)

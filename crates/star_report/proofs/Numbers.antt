@@ -1,9 +1,6 @@
 -- What is printed of a number tells which number it is, and that it is neither ALL nor NULL.
-use Rattle.std.proofs.Common.{◌≡◌, ◌<◌, ◌^◌, ◌∙◌, ℕ, suc, ℤ, pos, negsuc, List, [], ◌∷◌, ap, arith, codes, drop, refl, subst, sym}
-use Rattle.std.specs.{Char.digit_value, Fmt.decimal, Fmt.signed_decimal, Str.Parse.AllDigits, Str.Parse.digits_value}
-use Rattle.std.proofs.lemmas.Fmt.{decimal_is_IsNumeral_wide}
-use Rattle.star_report.specs.Columns.{HasDigits}
-use Rattle.star_report.proofs.Bytes.{Lacks}
+use Rattle.std.{proofs.Common.{◌≡◌, ◌<◌, ◌^◌, ◌∙◌, ℕ, suc, ℤ, pos, negsuc, List, [], ◌∷◌, ap, arith, codes, drop, refl, subst, sym}, specs.Char.digit_value, specs.Fmt.{decimal, signed_decimal}, specs.Str.Parse.{AllDigits, digits_value}, proofs.lemmas.Fmt.decimal_is_IsNumeral_wide}
+use Rattle.star_report.{specs.Columns.HasDigits, proofs.Bytes.Lacks}
 
 digits_lack : (b : ℕ) (ds : List ℕ) → (digit_value b < 10 → ⊥) → AllDigits 10 ds → Lacks b ds
 digits_lack b [] other h = tt

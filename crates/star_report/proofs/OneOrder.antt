@@ -1,13 +1,7 @@
 -- Rows that are in order are so in one way, and so a run has one outcome.
-use Rattle.std.proofs.Common.{◌≡◌, ◌∙◌, ℕ, zero, suc, true≢false, List, [], ◌∷◌, Option, Some, None, ap, arith, get_or, map, refl, subst, sym}
-use Rattle.std.proofs.{lemmas.Cmp.int_cmp_total, lemmas.Cmp.lists_total, lemmas.Cmp.nat_cmp_total}
-use Rattle.std.specs.{Cmp.Lexicographic.slice_cmp, List.AllByRecursion, List.Contains, List.Sorted.IsStrictlySortedBy, Ordering.is_lt, Ordering.ordering_reverse, Ordering.ordering_then, declared.cmp.Ordering.Ordering, declared.cmp.Ordering.TheVariants.Less}
-use Rattle.std.specs.{declared.cmp.Ordering.TheVariants.Equal, declared.cmp.Ordering.TheVariants.Greater}
+use Rattle.std.{proofs.Common.{◌≡◌, ◌∙◌, ℕ, zero, suc, true≢false, List, [], ◌∷◌, Option, Some, None, ap, arith, get_or, map, refl, subst, sym}, proofs.lemmas.Cmp.{int_cmp_total, lists_total, nat_cmp_total}, specs.Cmp.Lexicographic.slice_cmp, specs.List.{AllByRecursion, Contains}, specs.List.Sorted.IsStrictlySortedBy, specs.Ordering.{is_lt, ordering_reverse, ordering_then}, specs.declared.cmp.Ordering.Ordering, specs.declared.cmp.Ordering.TheVariants.{Less, Equal, Greater}}
 use Rattle.star_common.proofs.Members.{at_each, contains_here, contains_later, contains_mapped, from_contains_map}
-use Rattle.star_schema.specs.Groups.{AreGroups, Entry, GroupRow, members, totals_of}
-use Rattle.star_schema.specs.Order.{column_cmp, key_cmp, row_cmp, sort_cmp, total_cmp, value_cmp}
-use Rattle.star_schema.specs.{declared.group.Aggregate.Aggregate, declared.group.GroupColumn.GroupColumn, declared.group.Direction.Direction, declared.group.Direction.TheVariants.Ascending, declared.group.Direction.TheVariants.Descending, declared.group.Shape.Shape}
-use Rattle.star_schema.specs.{declared.group.SortKey.SortKey, Tables.Value, Tables.Number, Tables.Text}
+use Rattle.star_schema.specs.{Groups.{AreGroups, Entry, GroupRow, members, totals_of}, Order.{column_cmp, key_cmp, row_cmp, sort_cmp, total_cmp, value_cmp}, declared.group.Aggregate.Aggregate, declared.group.GroupColumn.GroupColumn, declared.group.Direction.Direction, declared.group.Direction.TheVariants.{Ascending, Descending}, declared.group.Shape.Shape, declared.group.SortKey.SortKey, Tables.{Value, Number, Text}}
 use Rattle.star_program.specs.{declared.group.GroupDecl.GroupDecl, declared.outcome.Outcome.Outcome, declared.program.Parts.Parts, Effects.State, Faults.group_at, Outcome.AreReportRows, Outcome.IsOutcome, Outcome.decoded_row, Outcome.shown_cells, Puts.Update, World.World}
 use Rattle.star_schema.specs.declared.group.GroupColumn.TheVariants as column
 
@@ -50,10 +44,10 @@ total_turned None (Some y) = refl
 total_turned None None = refl
 
 column_turned : (c : GroupColumn) → IsTurned (column_cmp value_cmp c)
-column_turned (column.Key place) a b =
-    key_turned (get_or a.keys place None) (get_or b.keys place None)
-column_turned (column.Aggregate place) a b =
-    total_turned (get_or a.totals place None) (get_or b.totals place None)
+column_turned (column.Key index) a b =
+    key_turned (get_or a.keys index None) (get_or b.keys index None)
+column_turned (column.Aggregate index) a b =
+    total_turned (get_or a.totals index None) (get_or b.totals index None)
 
 sort_turned : (c : GroupColumn) (d : Direction) (a b : GroupRow Value)
     → sort_cmp value_cmp (record { column = c; direction = d }) a b

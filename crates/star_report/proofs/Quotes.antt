@@ -1,10 +1,7 @@
 -- What is printed of a text tells which text it is, and that it is not ALL.
-use Rattle.std.proofs.Common.{◌≡◌, ◌++◌, ◌∙◌, ◌⊎◌, ℕ, Bool, true, false, cond, eqb, inl, inr, List, [], ◌∷◌, ap, codes, refl, subst, sym}
-use Rattle.std.specs.List.{flat_map}
-use Rattle.std.proofs.lemmas.{Bool.eqb-true, Bool.eq-eqb, List.append_cancel_right}
+use Rattle.std.{proofs.Common.{◌≡◌, ◌++◌, ◌∙◌, ◌⊎◌, ℕ, Bool, true, false, cond, eqb, inl, inr, List, [], ◌∷◌, ap, codes, refl, subst, sym}, specs.List.flat_map, proofs.lemmas.Bool.{eqb-true, eq-eqb}, proofs.lemmas.List.append_cancel_right}
 use Rattle.star_common.specs.Quotes.{doubled, quoted}
-use Rattle.star_report.specs.Report.{field_of_text, is_ambiguous}
-use Rattle.star_report.proofs.Bytes.{Lacks, Lacks-append}
+use Rattle.star_report.{specs.Report.{field_of_text, is_ambiguous}, proofs.Bytes.{Lacks, Lacks-append}}
 
 chosen : {X : Type 0} (b : Bool) (x y : X) → ((b ≡ true) × (cond b x y ≡ x))
     ⊎ ((b ≡ false) × (cond b x y ≡ y))

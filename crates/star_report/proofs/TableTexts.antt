@@ -1,10 +1,6 @@
 -- The texts of a table stand in one field of a line.
-use Rattle.std.proofs.Common.{◌≡◌, ◌++◌, ◌&&◌, ◌||◌, ℕ, zero, suc, All, Bool, true, false, IsTrue, List, [], ◌∷◌, filter, map, not, refl, take, if◌then◌else◌}
-use Rattle.std.proofs.{lemmas.List.Elements.All-from_recursion, lemmas.Bool.and_from, lemmas.Bool.not_from_false}
-use Rattle.std.specs.List.{AllByRecursion, list_all}
-use Rattle.star_schema.specs.Records.{ends_line, fields_of, is_bar, is_filled, pieces, records_in, records_of, with_first}
-use Rattle.star_schema.specs.Tables.{cells_of, ends_in_bar, row_of, rows_of, values_of}
-use Rattle.star_schema.specs.{declared.column.Kind.Kind, declared.table.TableId.TableId, Schema.kinds_of, Schema.width_of}
+use Rattle.std.{proofs.Common.{◌≡◌, ◌++◌, ◌&&◌, ◌||◌, ℕ, zero, suc, All, Bool, true, false, IsTrue, List, [], ◌∷◌, filter, map, not, refl, take, if◌then◌else◌}, proofs.lemmas.List.Elements.All-from_recursion, proofs.lemmas.Bool.{and_from, not_from_false}, specs.List.{AllByRecursion, list_all}}
+use Rattle.star_schema.specs.{Records.{ends_line, fields_of, is_bar, is_filled, pieces, records_in, records_of, with_first}, Tables.{cells_of, ends_in_bar, row_of, rows_of, values_of}, declared.column.Kind.Kind, declared.table.TableId.TableId, Schema.{kinds_of, width_of}}
 use Rattle.star_report.specs.Columns.{IsFieldValue, is_field}
 use Rattle.star_schema.specs.declared.column.Kind.TheVariants as kind
 

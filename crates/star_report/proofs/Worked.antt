@@ -1,12 +1,10 @@
--- A report; and which cells may be in a printed column, at the ends of what is allowed and past them.
-use Rattle.std.proofs.Common.{◌≡◌, ◌<◌, ◌^◌, [], ◌∷◌, true, false, codes, negsuc, pos, refl}
-use Rattle.std.specs.Fmt.{digits}
-use Rattle.star_common.proofs.Tables.{Gives}
-use Rattle.star_common.specs.Quotes.{quoted}
+-- A report; and which cells may be in a printed column, at the ends of what is allowed and past
+-- them.
+use Rattle.std.{proofs.Common.{◌≡◌, ◌<◌, ◌^◌, [], ◌∷◌, true, false, codes, negsuc, pos, refl}, specs.Fmt.digits}
+use Rattle.star_common.{proofs.Tables.Gives, specs.Quotes.quoted}
 use Rattle.star_schema.specs.Tables as table
 use Rattle.star_program.specs.declared.outcome.Cell.TheVariants.{Number, Text, All, Null}
-use Rattle.star_report.specs.Columns.{IsCellOfKind, IsFieldValue, NumberKey, TextKey, Total, is_field}
-use Rattle.star_report.specs.Report.{cell_text, is_ambiguous, line_text, report_text}
+use Rattle.star_report.specs.{Columns.{IsCellOfKind, IsFieldValue, NumberKey, TextKey, Total, is_field}, Report.{cell_text, is_ambiguous, line_text, report_text}}
 
 -- a text that begins with a quote, the text ALL, the value ALL, and NULL
 worked_report : report_text (codes "s_region" ∷ codes "n" ∷ [])
@@ -16,8 +14,8 @@ worked_report : report_text (codes "s_region" ∷ codes "n" ∷ [])
 unfolding report_text line_text cell_text quoted digits
 worked_report = refl
 
--- a bar and the two ends of lines part fields, the bytes beside them don't; and what could be read as
--- ALL, or as a text in quotes
+-- a bar and the two ends of lines part fields, the bytes beside them don't; and what could be read
+-- as ALL, or as a text in quotes
 fields : Gives is_field (
     (codes "a b", true) ∷ ([], true) ∷ (codes "a|b", false) ∷ (13 ∷ [], false) ∷ (10 ∷ [], false)
     ∷ (125 ∷ 123 ∷ 14 ∷ 12 ∷ 11 ∷ 9 ∷ [], true) ∷ [])

@@ -1,7 +1,6 @@
 -- The printed report: a line of names and a line for each row, fields separated by bars (this
 -- project's profile; ALL: Gray et al. 1997, section 3.3).
-use Rattle.std.specs.Prelude.{◌||◌, ◌++◌, if◌then◌else◌, Bool, ℕ, List, codes, map, nat_eq}
-use Rattle.std.specs.{Cmp.Lexicographic.pointwise, Fmt.signed_decimal, List.flat_map, List.join_with_byte, List.starts_with}
+use Rattle.std.specs.{Prelude.{◌||◌, ◌++◌, if◌then◌else◌, Bool, ℕ, List, codes, map, nat_eq}, Cmp.Lexicographic.pointwise, Fmt.signed_decimal, List.{flat_map, join_with_byte, starts_with}}
 use Rattle.star_common.specs.Quotes.{quoted}
 use Rattle.star_program.specs.declared.outcome.Cell.{Cell, TheVariants.Number, TheVariants.Text, TheVariants.All, TheVariants.Null}
 

@@ -1,7 +1,6 @@
 // The text of an outcome: a line of names and a line for each row.
 
-ghost use Rattle.std.specs.Prelude.{◌≡◌, ◌++◌, ◌∷◌, ℕ, List, IfOk, OnOk, map};
-ghost use Rattle.std.specs.{Fmt.signed_decimal, List.flat_map, List.join_with_byte};
+ghost use Rattle.std.specs.{Prelude.{◌≡◌, ◌++◌, ◌∷◌, ℕ, List, IfOk, OnOk, map}, Fmt.signed_decimal, List.{flat_map, join_with_byte}};
 ghost use Rattle.star_report.specs.Report.{cell_text, field_of_text, is_ambiguous, line_text, report_text};
 
 use itoa::Buffer;

@@ -65,13 +65,13 @@ fn codes(entries: u32) -> Option<Interval> {
 fn range_of(
     verified: &Verified<'_>,
     group: usize,
-    place: usize,
+    index: usize,
     key: GroupKey,
 ) -> Option<Interval> {
     match key {
         GroupKey::Text(column) if is_text(column) => codes(verified.catalogue().entries(column)),
         GroupKey::Text(_) => None,
-        GroupKey::Number => verified.expected(group, place),
+        GroupKey::Number => verified.expected(group, index),
     }
 }
 
@@ -106,8 +106,8 @@ fn known_ranges(
     declared: &GroupDecl,
 ) -> Result<Vec<Interval>, AllocError> {
     let mut ranges = Vec::new(alloc);
-    for (place, key) in declared.keys.as_slice().iter().enumerate() {
-        match range_of(verified, group, place, *key) {
+    for (index, key) in declared.keys.as_slice().iter().enumerate() {
+        match range_of(verified, group, index, *key) {
             Some(range) => ranges.push(range)?,
             None => return Ok(ranges),
         }

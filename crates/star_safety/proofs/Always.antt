@@ -1,14 +1,6 @@
 -- What is known before a run holds at every moment of it.
-use Rattle.std.proofs.Common.{◌≡◌, ℕ, zero, suc, ◌+◌, ◌*◌, ◌^◌, ◌≤◌, ◌<◌, Bool, true, false, List, [], ◌∷◌, refl, sym, subst, arith, le_trans}
-use Rattle.star_safety.proofs.Common.{Agrees, AllKnown, BadRegister, Code, Context, Count, Each, Effect, End, Faulty, Holds, HoldsThroughout, InEachTurn, IsAccepted, IsLoaded, IsMoment, KnownRow, Onward, Parts, Registers, Row, Shares, State, Stop, Then, Throughout, TotalsLie, World, WrittenTwice, act, after_op, after_scan, all_shares, at_end, at_first, at_place, code_puts_to, code_size, empty_state, group_at, in_scan, key_value_cmp, ltb-true, meaning, members, nat_lt, no_registers, none_open, not, numbers_for, op_reason, open_with, or_none, or_parts, picked, quote, scan_reason, slice_index_or, sum_of, turns, turns_met, unless, unless_none, visited, with_entry, ℤ}
-use Rattle.star_safety.proofs.Tally.{Tally, Tallies, no_tallies, plus_all, times_all, tallies_of, tally_of, tally_sum, sum_range_is}
-use Rattle.star_safety.proofs.{TallyOrder.AtMost, TallyOrder.at_most_trans, TallyOrder.at_most_plus, TallyOrder.at_most_turn, Gains.op_gain, Gains.gain, Gains.whole_gain, Room.has_room}
-use Rattle.star_safety.proofs.Tallied.{sum_up, sum_down, IsTallied, tallied_more, tallied_members, sums_lie, shares_lie}
-use Rattle.star_safety.proofs.Instructions.{unmapped_none, agrees_entry, AreTallied, IsGood, act_good}
-use Rattle.star_safety.proofs.Turns.{Safe, all_tallied_more, safe_more, safe_turns, at_start}
-use Rattle.star_safety.proofs.Sound.{quoted_each, in_time, at_place_none, IsReady, ready_then, ready_in, ready_after, op_room}
-use Rattle.star_safety.proofs.Runs.{AllFit, sound, not_refused, ready_first, all_fit, few_puts, nothing_tallied, safe_ends}
-use Rattle.std.proofs.lemmas.Grind.{common_steps}
+use Rattle.std.proofs.{Common.{◌≡◌, ℕ, zero, suc, ◌+◌, ◌*◌, ◌^◌, ◌≤◌, ◌<◌, Bool, true, false, List, [], ◌∷◌, refl, sym, subst, arith, le_trans}, lemmas.Grind.common_steps}
+use Rattle.star_safety.proofs.{Common.{Agrees, AllKnown, BadRegister, Code, Context, Count, Each, Effect, End, Faulty, Holds, HoldsThroughout, InEachTurn, IsAccepted, IsLoaded, IsMoment, KnownRow, Onward, Parts, Registers, Row, Shares, State, Stop, Then, Throughout, TotalsLie, World, WrittenTwice, act, after_op, after_scan, all_shares, at_end, at_first, at_position, code_puts_to, code_size, empty_state, group_at, in_scan, key_value_cmp, ltb-true, meaning, members, nat_lt, no_registers, none_open, not, numbers_for, op_reason, open_with, or_none, or_parts, picked, quote, scan_reason, slice_index_or, sum_of, turns, turns_met, unless, unless_none, visited, with_entry, ℤ}, Tally.{Tally, Tallies, no_tallies, plus_all, times_all, tallies_of, tally_of, tally_sum, sum_range_is}, TallyOrder.{AtMost, at_most_trans, at_most_plus, at_most_turn}, Gains.{op_gain, gain, whole_gain}, Room.has_room, Tallied.{sum_up, sum_down, IsTallied, tallied_more, tallied_members, sums_lie, shares_lie}, Instructions.{unmapped_none, agrees_entry, AreTallied, IsGood, act_good}, Turns.{Safe, all_tallied_more, safe_more, safe_turns, at_start}, Sound.{quoted_each, in_time, at_position_none, IsReady, ready_then, ready_in, ready_after, op_room}, Runs.{AllFit, sound, not_refused, ready_first, all_fit, few_puts, nothing_tallied, safe_ends}}
 
 -- ---- one moment
 
@@ -34,9 +26,8 @@ record Fits (parts : Parts) (m : Tallies) : Type 0 where
 
 moment : (w : World) (parts : Parts) (all : Shares) (known : AllKnown) (y : Tallies)
     (regs : Registers) (s : State) → Fits parts (tallies_of all) → Agrees w known regs
-    → AreTallied y s
-    → ((g a : ℕ) → AtMost (y g a) (tally_of (all g a))) → s.visits ≤ quote w.size parts
-    → IsMoment w parts all known regs s
+    → AreTallied y s → ((g a : ℕ) → AtMost (y g a) (tally_of (all g a)))
+    → s.visits ≤ quote w.size parts → IsMoment w parts all known regs s
 moment w parts all known y regs s fit agrees tallied room quoted = record {
   registers = agrees;
   sums = λ g a picks. subst
@@ -58,8 +49,7 @@ moment w parts all known y regs s fit agrees tallied room quoted = record {
 onward : (w : World) (known : AllKnown) (y : Tallies) (visits : ℕ) (e : Effect)
     (Next : Registers → State → Type 0) → IsGood w known y visits e
     → ((regs : Registers) (s : State) → Agrees w known regs → AreTallied y s → s.visits ≡ visits
-    → Next regs s)
-    → Onward e Next
+    → Next regs s) → Onward e Next
 onward w known y visits e Next h go = grind (arith, common_steps)
 
 in_each_turn : (y add : Tallies) (start inner rows : ℕ) (turn : ℕ → State → End)
@@ -94,9 +84,8 @@ module _ (w : World) (catalogue : IsLoaded w) (parts : Parts) (all : Shares)
         at_most_trans _ _ _ (at_most_plus (y g a) (gain w parts x c g a)) (ready.room g a)
 
     always : (c : Code) (at : ℕ) (pending : ℕ → Bool) (x : Context) (y : Tallies) (regs : Registers)
-        (s : State)
-        → IsReady w parts (tallies_of all) pending x y at c → Agrees w x.known regs → AreTallied y s
-        → s.visits + turns_met w.size 1 c ≤ quote w.size parts
+        (s : State) → IsReady w parts (tallies_of all) pending x y at c → Agrees w x.known regs
+        → AreTallied y s → s.visits + turns_met w.size 1 c ≤ quote w.size parts
         → Throughout w parts all x c at regs s
     always Stop at pending x y regs s ready agrees tallied quoted =
         moment w parts all x.known y regs s fit agrees tallied (here_fits pending x y at Stop ready)
@@ -108,8 +97,8 @@ module _ (w : World) (catalogue : IsLoaded w) (parts : Parts) (all : Shares)
           (act w parts x.inside regs s op) _
           (act_good w catalogue parts x y regs s agrees tallied (open_with pending rest) op
           (tallies_of all)
-          (at_place_none at _
-          (or_none (at_place at (op_reason w parts (open_with pending rest) x op))
+          (at_position_none at _
+          (or_none (at_position at (op_reason w parts (open_with pending rest) x op))
           _ ready.accepted).0)
           (λ g a o. ready.closed g a (or_parts (pending g) (code_puts_to g rest) o).0)
           (op_room w parts (tallies_of all) pending x y at op rest ready)
@@ -128,10 +117,10 @@ module _ (w : World) (catalogue : IsLoaded w) (parts : Parts) (all : Shares)
         let whole = quoted_each w table r body rest in
         let within : s.visits + (rows * (met + 1) + later) ≤ quote w.size parts =
         omega (arith, quoted, whole) in
-        let p = or_none (at_place at (scan_reason parts x r)) _ ready.accepted in
+        let p = or_none (at_position at (scan_reason parts x r)) _ ready.accepted in
         let here = or_none (unless (nat_lt r parts.registers) BadRegister)
         (unless (not (x.written r)) WrittenTwice)
-        (unmapped_none Faulty _ (at_place_none at (scan_reason parts x r) p.0)) in
+        (unmapped_none Faulty _ (at_position_none at (scan_reason parts x r) p.0)) in
         let turn : ℕ → State → End =
         λ j. meaning w parts (λ visits. true) body (at + 1) true
         (with_entry regs r (Row table j)) in
@@ -185,6 +174,6 @@ accepted_throughout w parts accepted = always w accepted.loaded parts (all_share
 pub totals_lie : (w : World) (parts : Parts) (s : State) → AreTallied (whole_gain w parts) s
     → TotalsLie w parts s
 totals_lie w parts s tallied =
-    λ g place keys. shares_lie (slice_index_or (group_at parts g).aggregates place Count)
-    (all_shares w parts g place) (numbers_for place (members key_value_cmp keys (s.updates_of g)))
-    (tallied_members (whole_gain w parts g place) place keys (s.updates_of g) (tallied g place))
+    λ g index keys. shares_lie (slice_index_or (group_at parts g).aggregates index Count)
+    (all_shares w parts g index) (numbers_for index (members key_value_cmp keys (s.updates_of g)))
+    (tallied_members (whole_gain w parts g index) index keys (s.updates_of g) (tallied g index))

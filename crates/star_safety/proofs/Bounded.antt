@@ -1,9 +1,7 @@
 -- No run makes more turns than are quoted, and one that may make as many as that is the run without
 -- a bound.
-use Rattle.std.proofs.Common.{◌≡◌, ℕ, zero, suc, ◌+◌, ◌*◌, ◌≤◌, ◌<◌, Bool, true, false, Option, Some, None, refl, subst, arith, zero-add, le_trans}
-use Rattle.star_safety.proofs.Common.{Code, Each, Effect, End, Ended, EndsTurn, GoesOn, Limited, Op, Parts, Registers, Row, State, Stop, Then, TrapKind, Trapped, Traps, World, act, after, begin, bounded_run_of, code_size, effect_of, flag_read, follow, if◌then◌else◌, lt-ltb, meaning, mul-le-mul_right, nat_lt, quote, run_of, scans, trap_of, turns, turns_met, unless_trap, visited, with_entry}
-use Rattle.star_safety.proofs.Sound.{quoted_each, in_time}
-use Rattle.std.proofs.lemmas.Grind.{common_steps}
+use Rattle.std.proofs.{Common.{◌≡◌, ℕ, zero, suc, ◌+◌, ◌*◌, ◌≤◌, ◌<◌, Bool, true, false, Option, Some, None, refl, subst, arith, zero-add, le_trans}, lemmas.Grind.common_steps}
+use Rattle.star_safety.proofs.{Common.{Code, Each, Effect, End, Ended, EndsTurn, GoesOn, Limited, Op, Parts, Registers, Row, State, Stop, Then, TrapKind, Trapped, Traps, World, act, after, begin, bounded_run_of, code_size, effect_of, flag_read, follow, if◌then◌else◌, lt-ltb, meaning, mul-le-mul_right, nat_lt, quote, run_of, scans, trap_of, turns, turns_met, unless_trap, visited, with_entry}, Sound.{quoted_each, in_time}}
 
 -- ---- an instruction begins no turn
 
@@ -53,9 +51,8 @@ same_after : (v u : ℕ) (e e' : End) (f g : State → End) → Same v e e'
 same_after v u e e' f g q h = grind (arith, common_steps, after)
 
 same_follow : (visits v at : ℕ) (e : Effect) (f g : Registers → State → End) → BeginsNone visits e
-    → visits ≤ v
-    → ((regs : Registers) (s : State) → s.visits ≡ visits → Same v (f regs s) (g regs s))
-    → Same v (follow at e f) (follow at e g)
+    → visits ≤ v → ((regs : Registers) (s : State) → s.visits ≡ visits
+    → Same v (f regs s) (g regs s)) → Same v (follow at e f) (follow at e g)
 same_follow visits v at e f g q b h = grind (arith, common_steps)
 
 same_scans : (v at : ℕ) (b : Bool) (f g : Unit {0} → End) → Same v (f tt) (g tt)

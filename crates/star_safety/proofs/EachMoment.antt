@@ -1,8 +1,6 @@
 -- What holds throughout a run holds at each moment that it meets, and the other way round.
-use Rattle.std.proofs.Common.{◌≡◌, ℕ, zero, suc, ◌+◌, ◌<◌, Bool, true, false, refl, subst, sym, arith}
-use Rattle.star_safety.proofs.Common.{AtEveryMoment, Code, Context, Each, Effect, End, Ended, EndsWith, GoesOn, HoldsFrom, HoldsThroughout, InEachTurn, IsMetFrom, Limited, Moment, Onward, Parts, Registers, Row, Shares, State, Stop, Then, Throughout, Trapped, World, act, after, after_op, after_scan, all_shares, at_end, behind, behind_scan, code_size, first_moment, follow, in_scan, in_turn, itself, ltb-true, meaning, meaning_of, moment, nat_lt, scans, turns, visited, with_entry}
-use Rattle.star_safety.proofs.BeforePuts.{moment_of}
-use Rattle.std.proofs.lemmas.Grind.{common_steps}
+use Rattle.std.proofs.{Common.{◌≡◌, ℕ, zero, suc, ◌+◌, ◌<◌, Bool, true, false, refl, subst, sym, arith}, lemmas.Grind.common_steps}
+use Rattle.star_safety.proofs.{Common.{AtEveryMoment, Code, Context, Each, Effect, End, Ended, EndsWith, GoesOn, HoldsFrom, HoldsThroughout, InEachTurn, IsMetFrom, Limited, Moment, Onward, Parts, Registers, Row, Shares, State, Stop, Then, Throughout, Trapped, World, act, after, after_op, after_scan, all_shares, at_end, behind, behind_scan, code_size, first_moment, follow, in_scan, in_turn, itself, ltb-true, meaning, meaning_of, moment, nat_lt, scans, turns, visited, with_entry}, BeforePuts.moment_of}
 
 -- ---- from the whole run to a moment
 
@@ -79,8 +77,7 @@ module _ (w : World) (parts : Parts) (all : Shares) where
   onward_from : (e : Effect) (at : ℕ) (go : Registers → State → End)
       (Next : Registers → State → Type 0) → Ends (follow at e go)
       → ((registers : Registers) (s : State) → e ≡ GoesOn registers s → Ends (go registers s)
-      → Next registers s)
-      → Onward e Next
+      → Next registers s) → Onward e Next
   onward_from e at go Next h next = grind (arith, common_steps)
 
   -- the turns from one on, behind those that went before
@@ -105,9 +102,8 @@ module _ (w : World) (parts : Parts) (all : Shares) where
 
   in_turns : (rows : ℕ) (turn : ℕ → State → End) (Holding : ℕ → State → Type 0) (first : State)
       → ((row : ℕ) (s : State) → row < rows → turns (λ visits. true) row 0 turn first ≡ Ended s
-      → Ends (turn row (visited s)) → Holding row (visited s))
-      → (count row : ℕ) → row + count ≡ rows → (s : State)
-      → turns (λ visits. true) row 0 turn first ≡ Ended s
+      → Ends (turn row (visited s)) → Holding row (visited s)) → (count row : ℕ)
+      → row + count ≡ rows → (s : State) → turns (λ visits. true) row 0 turn first ≡ Ended s
       → Ends (turns (λ visits. true) count row turn s) → InEachTurn count row turn Holding s
   in_turns rows turn Holding first one zero row e s is ends = tt
   in_turns rows turn Holding first one (suc count) row e s is ends =

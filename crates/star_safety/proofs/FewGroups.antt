@@ -1,7 +1,6 @@
 -- Groups whose keys have few values are few.
-use Rattle.std.proofs.Common.{◌≡◌, ◌⊎◌, ℕ, zero, suc, ◌≤◌, Bool, true, false, List, [], ◌∷◌, ◌++◌, Option, Some, None, length, map, replicate, refl, sym, ap, subst, ◌∙◌, arith, ⊎_elim, true≢false, le_trans}
+use Rattle.std.proofs.{Common.{◌≡◌, ◌⊎◌, ℕ, zero, suc, ◌≤◌, Bool, true, false, List, [], ◌∷◌, ◌++◌, Option, Some, None, length, map, replicate, refl, sym, ap, subst, ◌∙◌, arith, ⊎_elim, true≢false, le_trans}, lemmas.Grind.common_steps}
 use Rattle.star_safety.proofs.Common.{Contains, Contains-append_cases, Contains-append_left, Contains-append_right, Contains-from_any, Cube, IsDistinct, IsMasked, KeyValue, Plain, Rollup, Shape, contains_cases, contains_here, contains_later, contains_mapped, contains_none, filter, flat_map, from_contains_map, if◌then◌else◌, is_grouping, is_none, key_decides, key_eq, key_equiv, length-append, length-le_from_is_member, length-map, length-rows, list_all, list_any-from_Contains, lists_of, masks, nat_le, rows_of_grouping, rows_of_groupings, sum_by, sum_by-cons}
-use Rattle.std.proofs.lemmas.Grind.{common_steps}
 
 -- ---- elements of lists that are joined, and of those that pass a test
 
@@ -232,9 +231,8 @@ module _ {K : Type 0} where
             one
           where
             of_row : (least : Bool) (ks : List K) → Contains rows ks → IsMasked qs ks
-                → AreAmong qs vss
-                → Contains (if least then map (cut_like (like qs counts)) rows
-                else choices (like qs counts) vss) qs
+                → AreAmong qs vss → Contains (if least then map
+                (cut_like (like qs counts)) rows else choices (like qs counts) vss) qs
             of_row true ks c m among = subst (Contains (map (cut_like (like qs counts)) rows))
                 (cut_again qs counts ks same m)
                 (contains_mapped (cut_like (like qs counts)) rows ks c)

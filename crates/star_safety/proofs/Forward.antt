@@ -1,9 +1,6 @@
 -- One pass over the code of a program finds the first instruction that is refused.
-use Rattle.std.proofs.Common.{◌≡◌, ℕ, ◌+◌, ◌≤◌, Bool, true, false, List, [], ◌∷◌, ◌++◌, Option, Some, None, refl, sym, ap, ◌∙◌, arith, append_assoc, append-nil}
-use Rattle.star_safety.proofs.Common.{Act, Code, CodeItem, Context, Each, Enclosing, Op, Parts, Scan, Standing, Stop, TableId, Then, World, after_op, after_scan, and_right, at_end, at_first, at_place, code_puts_to, code_size, eq-eqb, first_answer, first_reason, has_scan, in_one_of, in_scan, instructions_of, is_open, item_scope, le-ltb, list_any, list_any-append, lt-ltb, nat_lt, none_open, op_puts_to, op_reason, open_with, option_or, or-false, or_right, puts_to, reason_among, reason_of, scan_reason, scope_of, standing, ◌&&◌, ◌||◌}
-use Rattle.star_safety.proofs.Scopes.{AreBelow, any_with, any_has, EachOf, each_both, each_so, same_any, stand_in}
-use Rattle.star_safety.proofs.Told.{Tells, tells_then, tells_in, tells_after, tells_through, nothing_told}
-use Rattle.std.proofs.lemmas.Grind.{common_steps}
+use Rattle.std.proofs.{Common.{◌≡◌, ℕ, ◌+◌, ◌≤◌, Bool, true, false, List, [], ◌∷◌, ◌++◌, Option, Some, None, refl, sym, ap, ◌∙◌, arith, append_assoc, append-nil}, lemmas.Grind.common_steps}
+use Rattle.star_safety.proofs.{Common.{Act, Code, CodeItem, Context, Each, Enclosing, Op, Parts, Scan, Standing, Stop, TableId, Then, World, after_op, after_scan, and_right, at_end, at_first, at_position, code_puts_to, code_size, eq-eqb, first_answer, first_reason, has_scan, in_one_of, in_scan, instructions_of, is_open, item_scope, le-ltb, list_any, list_any-append, lt-ltb, nat_lt, none_open, op_puts_to, op_reason, open_with, option_or, or-false, or_right, puts_to, reason_among, reason_of, scan_reason, scope_of, standing, ◌&&◌, ◌||◌}, Scopes.{AreBelow, any_with, any_has, EachOf, each_both, each_so, same_any, stand_in}, Told.{Tells, tells_then, tells_in, tells_after, tells_through, nothing_told}}
 
 -- ---- the groups that some code puts to
 
@@ -239,10 +236,10 @@ module _ (w : World) (parts : Parts) (all : List Standing) where
   first_is Stop round pending x at earlier later h = refl
   first_is (Then op rest) round pending x at earlier later h =
       let same = same_open op rest round pending x at earlier later h in
-      ap (λ o. option_or (at_place at (op_reason w parts o x op))
+      ap (λ o. option_or (at_position at (op_reason w parts o x op))
       (first_reason w parts pending (after_op w parts x op) (at + 1) rest)) (λ k g. same g k)
       ∙ ap (λ o. option_or
-      (at_place at (op_reason w parts (is_open all
+      (at_position at (op_reason w parts (is_open all
       (record { number = at; round = round; context = x; item = Act op })) x op)) o)
       (first_is rest round pending (after_op w parts x op) (at + 1) _ later
       (among_then op rest round pending x at earlier later h))
@@ -285,7 +282,7 @@ module _ (w : World) (parts : Parts) (all : List Standing) where
             (sym (append_assoc earlier (scan ∷ []) (inside ++ behind))
             ∙ sym (append_assoc so_far inside behind));
       }) in
-      ap (λ o. option_or (at_place at (scan_reason parts x r)) o)
+      ap (λ o. option_or (at_position at (scan_reason parts x r)) o)
       (ap (λ o. option_or o (first_reason w parts pending next (at + 1 + code_size body) rest))
       in_body
       ∙ ap (λ o. option_or (first_answer (reason_among w parts all) inside) o) in_rest

@@ -1,9 +1,6 @@
 -- What instructions and code add each time that they are met.
-use Rattle.std.proofs.Common.{ℕ, ◌+◌, ◌≤◌, List, None, arith}
-use Rattle.star_safety.proofs.Common.{AllKnown, Code, Context, Each, GroupDecl, Op, Parts, Put, Stop, TableId, Then, World, after_op, after_scan, all_shares, at_end, group_at, if◌then◌else◌, in_scan, nat_eq, put_known, put_share, range_at, slice_index_or}
-use Rattle.star_safety.proofs.Tally.{Tally, no_tally, once, plus, times, Tallies, no_tallies, plus_all, times_all, tally_of, tallies_of}
-use Rattle.star_safety.proofs.TallyOrder.{AtMost, at_most_refl, at_most_trans, at_most_both, at_most_spread, at_most_product, at_most_nothing}
-use Rattle.std.proofs.lemmas.Grind.{common_steps}
+use Rattle.std.proofs.{Common.{ℕ, ◌+◌, ◌≤◌, List, None, arith}, lemmas.Grind.common_steps}
+use Rattle.star_safety.proofs.{Common.{AllKnown, Code, Context, Each, GroupDecl, Op, Parts, Put, Stop, TableId, Then, World, after_op, after_scan, all_shares, at_end, group_at, if◌then◌else◌, in_scan, nat_eq, put_known, put_share, range_at, slice_index_or}, Tally.{Tally, no_tally, once, plus, times, Tallies, no_tallies, plus_all, times_all, tally_of, tallies_of}, TallyOrder.{AtMost, at_most_refl, at_most_trans, at_most_both, at_most_spread, at_most_product, at_most_nothing}}
 
 -- ---- an instruction
 

@@ -1,12 +1,7 @@
 -- One instruction of an admissible program.
-use Rattle.std.proofs.Common.{◌≡◌, ℕ, zero, suc, ◌<◌, Bool, true, false, List, [], ◌∷◌, Option, Some, None, refl, subst, arith}
-use Rattle.star_safety.proofs.Common.{Add, Aggregate, Agrees, AllKnown, Assign, Binary, ColumnId, Const, Context, Count, Edge, Effect, EndsTurn, Fault, Faulty, Find, FitsAt, FitsValue, Flag, FromColumn, GoesOn, GroupDecl, Holds, IsLoaded, IsRowNumberOf, Keep, KeepsValues, Known, KnownFlag, KnownPlace, KnownRow, Less, Load, Mul, Not, Number, Op, Operator, Parts, Place, Put, Read, Reason, Registers, Share, State, Sub, TableId, TrapKind, Traps, Update, Value, Within, World, Wrong, act, after_op, aligned, answer_known, answer_of, binary_fault, both_fault, corner_range, differences_held, does, edge_of, effect_of, fault_of, fits_i64, flag_read, group_at, if◌then◌else◌, is_i64, is_number_kind, is_row_of, is_some_table, is_text, keeps, kind_fault, kind_reason, kinds_in, kinds_known, known_arithmetic, known_kind, known_number, loaded, loaded_known, map, nat_eq, not, number_read, numbers_fault, numbers_for, only, op_reason, operand_fault, operands_fault, option_map, option_or, or_none, origin_at, overflow_of, overflows, own_groups, place_fault, pos, products_held, put_known, puts, puts_update, range_at, range_reason, read_range, references, refers_to, refuses, register_kind, result_trap, row_read, sets, sets_answer, sets_found, slice_index_or, source_reason, sums_held, table_of, table_same, target_again, target_fault, target_of, total_over, unless, unless_none, unless_trap, unwrap_or, update_of, with_entry, ℤ, ◌*ℤ◌, ◌+ℤ◌, ◌-ℤ◌}
+use Rattle.std.proofs.{Common.{◌≡◌, ℕ, zero, suc, ◌<◌, Bool, true, false, List, [], ◌∷◌, Option, Some, None, refl, subst, arith}, lemmas.Grind.common_steps, lemmas.Int.ints}
+use Rattle.star_safety.proofs.{Common.{Add, Aggregate, Agrees, AllKnown, Assign, Binary, ColumnId, Const, Context, Count, Edge, Effect, EndsTurn, Fault, Faulty, Find, FitsAt, FitsValue, Flag, FromColumn, GoesOn, GroupDecl, Holds, IsLoaded, IsRowNumberOf, Keep, KeepsValues, Known, KnownFlag, KnownPlace, KnownRow, Less, Load, Mul, Not, Number, Op, Operator, Parts, Place, Put, Read, Reason, Registers, Share, State, Sub, TableId, TrapKind, Traps, Update, Value, Within, World, Wrong, act, after_op, aligned, answer_known, answer_of, binary_fault, both_fault, corner_range, differences_held, does, edge_of, effect_of, fault_of, fits_i64, flag_read, group_at, if◌then◌else◌, is_i64, is_number_kind, is_row_of, is_some_table, is_text, keeps, kind_fault, kind_reason, kinds_in, kinds_known, known_arithmetic, known_kind, known_number, loaded, loaded_known, map, nat_eq, not, number_read, numbers_fault, numbers_for, only, op_reason, operand_fault, operands_fault, option_map, option_or, or_none, origin_at, overflow_of, overflows, own_groups, place_fault, pos, products_held, put_known, puts, puts_update, range_at, range_reason, read_range, references, refers_to, refuses, register_kind, result_trap, row_read, sets, sets_answer, sets_found, slice_index_or, source_reason, sums_held, table_of, table_same, target_again, target_fault, target_of, total_over, unless, unless_none, unless_trap, unwrap_or, update_of, with_entry, ℤ, ◌*ℤ◌, ◌+ℤ◌, ◌-ℤ◌}, Tally.{Tally, no_tally, plus, Tallies, no_tallies, plus_all, tally_of}, Gains.{put_tally, op_gain}, Numbers.{holds_itself, fits_held}, TallyOrder.{AtMost, at_most_plus}, Tallied.{IsTallied, tallied_more, tallied_put, no_overflow, read_holds, tallies_fit, tallies_fit_less}}
 use Rattle.star_program.specs.declared.fault.TrapKind.TheVariants.{Overflow}
-use Rattle.star_safety.proofs.Tally.{Tally, no_tally, plus, Tallies, no_tallies, plus_all, tally_of}
-use Rattle.star_safety.proofs.{Gains.put_tally, Gains.op_gain, Numbers.holds_itself, Numbers.fits_held, TallyOrder.AtMost, TallyOrder.at_most_plus}
-use Rattle.star_safety.proofs.Tallied.{IsTallied, tallied_more, tallied_put, no_overflow, read_holds, tallies_fit, tallies_fit_less}
-use Rattle.std.proofs.lemmas.Grind.{common_steps}
-use Rattle.std.proofs.lemmas.Int.{ints}
 
 -- ---- no fault, and no reason
 

@@ -34,4 +34,4 @@ mod ToldBounds
 mod ToldColumns
 pub mod BeforePuts
 pub mod EachMoment
-mod MomentPlaces
+mod MomentIndexes

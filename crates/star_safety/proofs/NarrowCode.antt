@@ -1,9 +1,7 @@
 -- Where nothing refuses some code, what is known at its end lies within 2 ^ 63 of zero, and so does
 -- each number that it puts.
-use Rattle.std.proofs.Common.{◌≡◌, ℕ, ◌+◌, Bool, None, arith}
-use Rattle.star_safety.proofs.Common.{Code, Context, Each, Op, Parts, Stop, TableId, Then, World, after_op, after_scan, at_end, at_first, at_place, code_size, first_reason, in_scan, op_reason, open_with, or_none, scan_reason}
-use Rattle.star_safety.proofs.{Sound.at_place_none, NarrowRanges.Fits, NarrowRanges.zero_narrow, NarrowRanges.entry_narrow, NarrowRanges.after_narrow}
-use Rattle.std.proofs.lemmas.Grind.{common_steps}
+use Rattle.std.proofs.{Common.{◌≡◌, ℕ, ◌+◌, Bool, None, arith}, lemmas.Grind.common_steps}
+use Rattle.star_safety.proofs.{Common.{Code, Context, Each, Op, Parts, Stop, TableId, Then, World, after_op, after_scan, at_end, at_first, at_position, code_size, first_reason, in_scan, op_reason, open_with, or_none, scan_reason}, Sound.at_position_none, NarrowRanges.{Fits, zero_narrow, entry_narrow, after_narrow}}
 
 -- at the first instruction
 pub first_fits : (parts : Parts) → Fits parts at_first
@@ -25,12 +23,12 @@ pub end_fits : (w : World) (parts : Parts) (c : Code) (pending : ℕ → Bool) (
     → Fits parts x → first_reason w parts pending x at c ≡ None → Fits parts (at_end w parts x c)
 end_fits w parts Stop pending at x fits e = fits
 end_fits w parts (Then op rest) pending at x fits e =
-    let p = or_none (at_place at (op_reason w parts (open_with pending rest) x op)) _ e in
+    let p = or_none (at_position at (op_reason w parts (open_with pending rest) x op)) _ e in
     end_fits w parts rest pending (at + 1) (after_op w parts x op)
-    (op_fits w parts (open_with pending rest) x op fits (at_place_none at _ p.0)) p.1
+    (op_fits w parts (open_with pending rest) x op fits (at_position_none at _ p.0)) p.1
 end_fits w parts (Each table r body rest) pending at x fits e =
     let inner = in_scan w x table r in
-    let p = or_none (at_place at (scan_reason parts x r)) _ e in
+    let p = or_none (at_position at (scan_reason parts x r)) _ e in
     let within = open_with pending (Each table r body rest) in
     let q = or_none (first_reason w parts within inner (at + 1) body) _ p.1 in
     end_fits w parts rest pending (at + 1 + code_size body)

@@ -1,11 +1,7 @@
 -- What is known where nothing is refused lies within 2 ^ 63 of zero, each result of it within
 -- 2 ^ 126, and so does the sum of fewer than 2 ^ 63 numbers.
-use Rattle.std.proofs.Common.{◌≡◌, ℕ, zero, suc, ◌+◌, ◌*◌, ◌^◌, ◌≤◌, ◌<◌, Bool, true, false, List, [], ◌∷◌, Option, Some, None, refl, arith, FitsSigned, w64}
-use Rattle.star_safety.proofs.Common.{Add, Aggregate, AllByRecursion, AllKnown, And, Assign, ColumnId, Context, Count, Equal, FitsI128, FitsI64, Keep, Known, KnownNumber, Less, LessOrEqual, Max, Min, Mul, NamesI64, Op, Operation, Operator, Or, Parts, Put, Range, Read, Share, Sub, Sum, World, after_op, aligned, answer_known, fits_i64, group_at, hull, hull_of, hull_with, is_text, known_number, loaded_known, map, most_of, multiple_range, negsuc, only, overflow_of, pos, put_known, put_share, range_at, range_reason, read_range, result_known, slice_index_or, sum_range, unsigned_abs, widened, with_entry, ℤ, ◌*ℤ◌, ◌+ℤ◌, ◌-ℤ◌}
-use Rattle.star_safety.proofs.Instructions.{not_refuses_none}
-use Rattle.star_safety.proofs.Sizes.{Small, small_more, sum_abs, difference_abs, product_abs, fits_small, small_fits, i64_small, only_small, hull_small, corner_small, widened_small, multiple_small}
-use Rattle.std.proofs.lemmas.Grind.{common_steps}
-use Rattle.std.proofs.lemmas.Int.{ints}
+use Rattle.std.proofs.{Common.{◌≡◌, ℕ, zero, suc, ◌+◌, ◌*◌, ◌^◌, ◌≤◌, ◌<◌, Bool, true, false, List, [], ◌∷◌, Option, Some, None, refl, arith, FitsSigned, w64}, lemmas.Grind.common_steps, lemmas.Int.ints}
+use Rattle.star_safety.proofs.{Common.{Add, Aggregate, AllByRecursion, AllKnown, And, Assign, ColumnId, Context, Count, Equal, FitsI128, FitsI64, Keep, Known, KnownNumber, Less, LessOrEqual, Max, Min, Mul, NamesI64, Op, Operation, Operator, Or, Parts, Put, Range, Read, Share, Sub, Sum, World, after_op, aligned, answer_known, fits_i64, group_at, hull, hull_of, hull_with, is_text, known_number, loaded_known, map, most_of, multiple_range, negsuc, only, overflow_of, pos, put_known, put_share, range_at, range_reason, read_range, result_known, slice_index_or, sum_range, unsigned_abs, widened, with_entry, ℤ, ◌*ℤ◌, ◌+ℤ◌, ◌-ℤ◌}, Instructions.not_refuses_none, Sizes.{Small, small_more, sum_abs, difference_abs, product_abs, fits_small, small_fits, i64_small, only_small, hull_small, corner_small, widened_small, multiple_small}}
 
 -- ---- what is known where nothing is refused
 

@@ -1,7 +1,6 @@
 -- How often an instruction is met where few scans stand one in another.
-use Rattle.std.proofs.Common.{◌≡◌, ◌<◌, ◌≤◌, ◌+◌, ◌*◌, ◌^◌, ℕ, suc, Bool, true, false, arith, refl}
+use Rattle.std.proofs.{Common.{◌≡◌, ◌<◌, ◌≤◌, ◌+◌, ◌*◌, ◌^◌, ℕ, suc, Bool, true, false, arith, refl}, lemmas.Grind.common_steps}
 use Rattle.star_safety.proofs.Common.{Code, Decides-ltb, Each, TableId, if◌then◌else◌, ltb-false, mul-le-mul_left, mul-le-mul_right, mul_assoc, nat_lt, one-le-pow, pow-le-pow_right, pow-succ', scan_depth}
-use Rattle.std.proofs.lemmas.Grind.{common_steps}
 
 pub deeper_left : (b : Bool) (m n k : ℕ) → nat_lt m n ≡ b → (if b then n else m) ≤ k → m ≤ k
 deeper_left true m n k e h = let lt : m < n = (Decides-ltb m n).0 e in omega (arith, lt, h)

@@ -1,9 +1,8 @@
 -- Numbers in ranges, and in their bits.
-use Rattle.std.proofs.Common.{◌≡◌, ◌^◌, ◌≤◌, ◌<◌, true, refl, arith, inl, inr}
+use Rattle.std.proofs.{Common.{◌≡◌, ◌^◌, ◌≤◌, ◌<◌, true, refl, arith, inl, inr}, lemmas.Grind.common_steps}
 use Rattle.star_safety.proofs.Common.{Holds, Range, and_parts, fits_i64, hull, ints, is_i128, is_i64, lt-ltb, negsuc, only, pos, ℤ, ◌≤ℤ◌}
 use borrow.Author.Differences.{up, down}
 use Rattle.star_interval.proofs.Ranges as ranges
-use Rattle.std.proofs.lemmas.Grind.{common_steps}
 
 pub holds_itself : (z : ℤ) → Holds (only z) z
 holds_itself z = ranges.holds_only z z refl

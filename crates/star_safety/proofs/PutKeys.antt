@@ -1,10 +1,8 @@
 -- Each key of an update is one of the values that are known of it before the run.
-use Rattle.std.proofs.Common.{◌≡◌, ℕ, zero, suc, ◌+◌, ◌<◌, Bool, true, false, List, [], ◌∷◌, ◌++◌, Option, Some, None, length, map, refl, sym, ap, subst, ◌∙◌, arith, ⊎_elim, zero-add}
-use Rattle.star_safety.proofs.Common.{Agrees, AllByRecursion, AllKnown, Assign, BadGroup, BadRegister, Code, Contains, Contains-append_right, Context, Each, Effect, End, Ended, EndsTurn, EndsWith, FitsAt, Flag, GoesOn, GroupKey, Holds, InEachTurn, Keep, KeyValue, Known, KnownFlag, KnownNumber, KnownPlace, KnownRow, KnownText, Limited, Number, Onward, Op, Parts, Place, Put, Range, Registers, Row, Share, Shares, State, Stop, Text, Then, Throughout, TrapKind, Trapped, Traps, Update, Value, World, WrongKind, act, after, after_op, after_scan, all_key_shares, and_parts, at_end, code_size, column_same, contains_cases, contains_here, contains_mapped, contains_none, each_values, eqb-true, fault_of, fits_key, follow, get_or-range_with_len, group_at, hull_of, hull_with, if◌then◌else◌, in_scan, ints, is_column, is_text, key_read, key_share, keys_fault, kind_fault, kinds_in, known_share, length-map, length-range_with_len, lt-ltb, meaning, most_of, nat_eq, nat_lt, negsuc, numbers_fault, numbers_to, op_key_shares, operand_fault, option_map, or_none, place_fault, pos, possible_values, put_share, range_with_len, register_kind, scans, slice_index_or, target_fault, turns, unless, unless_none, unless_trap, update_of, visited, width, with_entry, ℤ, ◌+ℤ◌, ◌-ℤ◌}
+use Rattle.std.proofs.{Common.{◌≡◌, ℕ, zero, suc, ◌+◌, ◌<◌, Bool, true, false, List, [], ◌∷◌, ◌++◌, Option, Some, None, length, map, refl, sym, ap, subst, ◌∙◌, arith, ⊎_elim, zero-add}, lemmas.Grind.common_steps}
+use Rattle.star_safety.proofs.{Common.{Agrees, AllByRecursion, AllKnown, Assign, BadGroup, BadRegister, Code, Contains, Contains-append_right, Context, Each, Effect, End, Ended, EndsTurn, EndsWith, FitsAt, Flag, GoesOn, GroupKey, Holds, InEachTurn, Keep, KeyValue, Known, KnownFlag, KnownNumber, KnownPlace, KnownRow, KnownText, Limited, Number, Onward, Op, Parts, Place, Put, Range, Registers, Row, Share, Shares, State, Stop, Text, Then, Throughout, TrapKind, Trapped, Traps, Update, Value, World, WrongKind, act, after, after_op, after_scan, all_key_shares, and_parts, at_end, code_size, column_same, contains_cases, contains_here, contains_mapped, contains_none, each_values, eqb-true, fault_of, fits_key, follow, get_or-range_with_len, group_at, hull_of, hull_with, if◌then◌else◌, in_scan, ints, is_column, is_text, key_read, key_share, keys_fault, kind_fault, kinds_in, known_share, length-map, length-range_with_len, lt-ltb, meaning, most_of, nat_eq, nat_lt, negsuc, numbers_fault, numbers_to, op_key_shares, operand_fault, option_map, or_none, place_fault, pos, possible_values, put_share, range_with_len, register_kind, scans, slice_index_or, target_fault, turns, unless, unless_none, unless_trap, update_of, visited, width, with_entry, ℤ, ◌+ℤ◌, ◌-ℤ◌}, BeforePuts.moment_of, FewGroups.sizes, Instructions.unmapped_none, Numbers.{holds_hull_left, holds_hull_right}}
 use Rattle.star_program.specs.declared.group.GroupKey.TheVariants as declared
 use Rattle.star_program.specs.declared.key.KeyValue.TheVariants as key
-use Rattle.star_safety.proofs.{BeforePuts.moment_of, FewGroups.sizes, Instructions.unmapped_none, Numbers.holds_hull_left, Numbers.holds_hull_right}
-use Rattle.std.proofs.lemmas.Grind.{common_steps}
 
 -- ---- the values of a key
 
@@ -21,22 +19,21 @@ listed w shares (declared.Text c) =
 listed w shares declared.Number = numbers_in (hull_of shares)
 
 abbrev pub each_listed : World → Parts → ℕ → ℕ → List GroupKey → List (List KeyValue)
-each_listed w parts g place [] = []
-each_listed w parts g place (declared ∷ rest) =
-    listed w (all_key_shares w parts g place) declared ∷ each_listed w parts g (suc place) rest
+each_listed w parts g index [] = []
+each_listed w parts g index (declared ∷ rest) =
+    listed w (all_key_shares w parts g index) declared ∷ each_listed w parts g (suc index) rest
 
 length-listed : (w : World) (shares : List Share) (declared : GroupKey)
     → length (listed w shares declared) ≡ possible_values w shares declared
 length-listed w shares declared =
     grind (arith, common_steps, length-map, length-range_with_len, width)
 
-pub sizes_are : (w : World) (parts : Parts) (g place : ℕ) (keys : List GroupKey)
-    → sizes (each_listed w parts g place keys)
-    ≡ each_values w (all_key_shares w parts g) place keys
-sizes_are w parts g place [] = refl
-sizes_are w parts g place (declared ∷ rest) =
-    λ i. length-listed w (all_key_shares w parts g place) declared i
-    ∷ sizes_are w parts g (suc place) rest i
+pub sizes_are : (w : World) (parts : Parts) (g index : ℕ) (keys : List GroupKey)
+    → sizes (each_listed w parts g index keys) ≡ each_values w (all_key_shares w parts g) index keys
+sizes_are w parts g index [] = refl
+sizes_are w parts g index (declared ∷ rest) =
+    λ i. length-listed w (all_key_shares w parts g index) declared i
+    ∷ sizes_are w parts g (suc index) rest i
 
 below : (n k : ℕ) → k < n → Contains (range_with_len 0 n) k
 below n k h = (
@@ -61,10 +58,10 @@ held_listed : (o : Option Range) (r : Range) (z : ℤ) → o ≡ Some r → Hold
 held_listed None r z e h = absurd (cc)
 held_listed (Some q) r z e h =
     let same : q ≡ r = cc e in
-    let place = from_low q z (subst (λ s. Holds s z) (sym same) h) in
-    subst (λ y. Contains (numbers_in (Some q)) (key.Number y)) place.2
-    (contains_mapped (number_from q.low) (range_with_len 0 (width q)) place.0
-    (below (width q) place.0 place.1))
+    let index = from_low q z (subst (λ s. Holds s z) (sym same) h) in
+    subst (λ y. Contains (numbers_in (Some q)) (key.Number y)) index.2
+    (contains_mapped (number_from q.low) (range_with_len 0 (width q)) index.0
+    (below (width q) index.0 index.1))
 
 -- ---- what all puts give a key
 
@@ -138,31 +135,31 @@ key_listed w ss met _ _ _ c e text h = absurd h
 module _ (w : World) (parts : Parts) where
   keys_listed : (x : Context) (g : ℕ) (regs : Registers) (all : List ℕ)
       → Agrees w x.known regs → ((r : ℕ) → IsTextAlone (x.known r))
-      → ((place : ℕ) → Contains (all_key_shares w parts g place)
-      (known_share x.met (x.known (slice_index_or all place 0))))
-      → (declared : List GroupKey) (rs : List ℕ) (place : ℕ) → length rs ≡ length declared
-      → ((j : ℕ) → j < length rs → slice_index_or all (place + j) 0 ≡ slice_index_or rs j 0)
+      → ((index : ℕ) → Contains (all_key_shares w parts g index)
+      (known_share x.met (x.known (slice_index_or all index 0))))
+      → (declared : List GroupKey) (rs : List ℕ) (index : ℕ) → length rs ≡ length declared
+      → ((j : ℕ) → j < length rs → slice_index_or all (index + j) 0 ≡ slice_index_or rs j 0)
       → keys_fault parts.registers (kinds_in regs) declared rs ≡ None
-      → KeysAmong (map (λ r. key_read (regs r)) rs) (each_listed w parts g place declared)
-  keys_listed x g regs all agrees texts shares [] [] place e same fine = tt
-  keys_listed x g regs all agrees texts shares (d ∷ ds) (r ∷ rs) place e same fine =
+      → KeysAmong (map (λ r. key_read (regs r)) rs) (each_listed w parts g index declared)
+  keys_listed x g regs all agrees texts shares [] [] index e same fine = tt
+  keys_listed x g regs all agrees texts shares (d ∷ ds) (r ∷ rs) index e same fine =
       let here = or_none (operand_fault parts.registers (kinds_in regs) (fits_key d) r)
       (keys_fault parts.registers (kinds_in regs) ds rs) fine in
-      let first : slice_index_or all place 0 ≡ r =
+      let first : slice_index_or all index 0 ≡ r =
       ap (λ n. slice_index_or all n 0) (omega arith) ∙ same 0 (omega arith) in (
-        key_listed w (all_key_shares w parts g place) x.met d (x.known r) (regs r)
-            (subst (λ q. Contains (all_key_shares w parts g place) (known_share x.met (x.known q)))
-            first (shares place))
+        key_listed w (all_key_shares w parts g index) x.met d (x.known r) (regs r)
+            (subst (λ q. Contains (all_key_shares w parts g index) (known_share x.met (x.known q)))
+            first (shares index))
             (or_none (unless (nat_lt r parts.registers) BadRegister) _ here.0).1
             (texts r) (agrees r),
-        keys_listed x g regs all agrees texts shares ds rs (suc place) (omega (arith, e))
+        keys_listed x g regs all agrees texts shares ds rs (suc index) (omega (arith, e))
             (λ j h. ap (λ n. slice_index_or all n 0) (omega arith)
             ∙ same (suc j) (omega (arith, h)))
             here.1,
       )
-  keys_listed x g regs all agrees texts shares [] (r ∷ rs) place e same fine =
+  keys_listed x g regs all agrees texts shares [] (r ∷ rs) index e same fine =
       absurd (omega (arith, e))
-  keys_listed x g regs all agrees texts shares (d ∷ ds) [] place e same fine =
+  keys_listed x g regs all agrees texts shares (d ∷ ds) [] index e same fine =
       absurd (omega (arith, e))
 
 -- ---- a run
@@ -209,8 +206,7 @@ module _ (w : World) (parts : Parts) (g : ℕ) (vss : List (List KeyValue)) wher
   kept_follow : (at : ℕ) (e : Effect) (next : Registers → State → End)
       (Next : Registers → State → Type 0) → Onward e Next → Leaves e
       → ((regs : Registers) (s : State) → Next regs s → AreListed s
-      → EndsWith (next regs s) AreListed)
-      → EndsWith (follow at e next) AreListed
+      → EndsWith (next regs s) AreListed) → EndsWith (follow at e next) AreListed
   kept_follow at e next Next h k go = grind (arith, common_steps)
 
   ends_after : (e : End) (next : State → End) (A : State → Type 0) → EndsWith e A
@@ -270,36 +266,36 @@ text_then : (w : World) (parts : Parts) (x : Context) (op : Op)
 text_then w parts x op texts r = grind (arith, common_steps, text_entry)
 
 -- what is put to the keys of groups stays
-keys_stay : (w : World) (parts : Parts) (x : Context) (c : Code) (g place : ℕ) (s : Share)
-    → Contains (x.keys_so_far g place) s → Contains ((at_end w parts x c).keys_so_far g place) s
-keys_stay w parts x Stop g place s h = h
-keys_stay w parts x (Then op rest) g place s h =
-    keys_stay w parts (after_op w parts x op) rest g place s
-    (Contains-append_right (op_key_shares x op g place) (x.keys_so_far g place) s h)
-keys_stay w parts x (Each t r body rest) g place s h =
+keys_stay : (w : World) (parts : Parts) (x : Context) (c : Code) (g index : ℕ) (s : Share)
+    → Contains (x.keys_so_far g index) s → Contains ((at_end w parts x c).keys_so_far g index) s
+keys_stay w parts x Stop g index s h = h
+keys_stay w parts x (Then op rest) g index s h =
+    keys_stay w parts (after_op w parts x op) rest g index s
+    (Contains-append_right (op_key_shares x op g index) (x.keys_so_far g index) s h)
+keys_stay w parts x (Each t r body rest) g index s h =
     let inner = in_scan w x t r in
-    keys_stay w parts (after_scan x (at_end w parts inner body)) rest g place s
-    (keys_stay w parts inner body g place s h)
+    keys_stay w parts (after_scan x (at_end w parts inner body)) rest g index s
+    (keys_stay w parts inner body g index s h)
 
 module _ (w : World) (parts : Parts) (g : ℕ) where
   abbrev values : List (List KeyValue)
   values = each_listed w parts g 0 (group_at parts g).keys
 
-  put_shares : (x : Context) (h : ℕ) (ks vs : List ℕ) → nat_eq g h ≡ true → (place : ℕ)
-      → Contains ((after_op w parts x (Put h ks vs)).keys_so_far g place) (key_share x ks place)
-  put_shares x h ks vs same place = grind (arith, common_steps, key_share, contains_here)
+  put_shares : (x : Context) (h : ℕ) (ks vs : List ℕ) → nat_eq g h ≡ true → (index : ℕ)
+      → Contains ((after_op w parts x (Put h ks vs)).keys_so_far g index) (key_share x ks index)
+  put_shares x h ks vs same index = grind (arith, common_steps, key_share, contains_here)
 
   -- all that the keys of the group are given up to some context is given to them in the end
   abbrev IsGivenBefore : Context → Type 0
-  IsGivenBefore x = (place : ℕ) (s : Share) → Contains (x.keys_so_far g place) s
-      → Contains (all_key_shares w parts g place) s
+  IsGivenBefore x = (index : ℕ) (s : Share) → Contains (x.keys_so_far g index) s
+      → Contains (all_key_shares w parts g index) s
 
   put_listed : (x : Context) (h : ℕ) (ks vs : List ℕ) → ((r : ℕ) → IsTextAlone (x.known r))
       → IsGivenBefore (after_op w parts x (Put h ks vs))
       → ListsKeys w parts g values x (Put h ks vs)
   put_listed x h ks vs texts given same regs agrees fine =
-      let place = or_none (place_fault parts x.inside (Put h ks vs)) _ fine in
-      let operands = or_none (target_fault parts.registers None) _ place.1 in
+      let index = or_none (place_fault parts x.inside (Put h ks vs)) _ fine in
+      let operands = or_none (target_fault parts.registers None) _ index.1 in
       let kinds = (or_none (keys_fault parts.registers (kinds_in regs) (group_at parts h).keys ks)
       (numbers_fault parts.registers (kinds_in regs) vs) operands.1).0 in
       let group : g ≡ h = eqb-true g h same in
@@ -307,7 +303,7 @@ module _ (w : World) (parts : Parts) (g : ℕ) where
       (each_listed w parts g 0 (group_at parts n).keys)) (sym group)
       (keys_listed w parts x g regs ks agrees texts
       (λ at. given at (key_share x ks at) (put_shares x h ks vs same at))
-      (group_at parts h).keys ks 0 (counted place.0)
+      (group_at parts h).keys ks 0 (counted index.0)
       (λ j lt. ap (λ n. slice_index_or ks n 0) (zero-add j)) kinds)
     where
       counted : place_fault parts x.inside (Put h ks vs) ≡ None
@@ -328,39 +324,39 @@ module _ (w : World) (parts : Parts) (g : ℕ) where
   all_listed Stop x texts given = tt
   all_listed (Then op rest) x texts given =
       let next = after_op w parts x op in (
-        op_listed x op texts (λ place s h. given place s (keys_stay w parts next rest g place s h)),
+        op_listed x op texts (λ index s h. given index s (keys_stay w parts next rest g index s h)),
         all_listed rest next (text_then w parts x op texts) given,
       )
   all_listed (Each t r body rest) x texts given =
       let inner = in_scan w x t r in
       let next = after_scan x (at_end w parts inner body) in (
         all_listed body inner (λ q. text_entry x.known r (KnownRow t) q texts tt)
-            (λ place s h. given place s (keys_stay w parts next rest g place s h)),
+            (λ index s h. given index s (keys_stay w parts next rest g index s h)),
         all_listed rest next texts given,
       )
 
 -- ---- how many updates there are
 
 -- a key is given as often as an aggregate
-pub same_many : (w : World) (parts : Parts) (x : Context) (c : Code) (g place a : ℕ)
-    → most_of (x.keys_so_far g place) ≡ most_of (x.so_far g a)
-    → most_of ((at_end w parts x c).keys_so_far g place) ≡ most_of ((at_end w parts x c).so_far g a)
-same_many w parts x Stop g place a e = e
-same_many w parts x (Then op rest) g place a e =
-    same_many w parts (after_op w parts x op) rest g place a (by op)
+pub same_many : (w : World) (parts : Parts) (x : Context) (c : Code) (g index a : ℕ)
+    → most_of (x.keys_so_far g index) ≡ most_of (x.so_far g a)
+    → most_of ((at_end w parts x c).keys_so_far g index) ≡ most_of ((at_end w parts x c).so_far g a)
+same_many w parts x Stop g index a e = e
+same_many w parts x (Then op rest) g index a e =
+    same_many w parts (after_op w parts x op) rest g index a (by op)
   where
-    by : (op : Op) → most_of ((after_op w parts x op).keys_so_far g place)
+    by : (op : Op) → most_of ((after_op w parts x op).keys_so_far g index)
         ≡ most_of ((after_op w parts x op).so_far g a)
     by (Put h ks vs) = put (nat_eq g h)
       where
         put : (b : Bool)
-            → most_of ((if b then key_share x ks place ∷ [] else []) ++ x.keys_so_far g place)
+            → most_of ((if b then key_share x ks index ∷ [] else []) ++ x.keys_so_far g index)
             ≡ most_of ((if b then put_share parts x h vs a ∷ [] else []) ++ x.so_far g a)
         put true = ap (λ n. n + x.met) e
         put false = e
     by (Assign t o) = e
     by (Keep f) = e
-same_many w parts x (Each t r body rest) g place a e =
+same_many w parts x (Each t r body rest) g index a e =
     let inner = in_scan w x t r in
-    same_many w parts (after_scan x (at_end w parts inner body)) rest g place a
-    (same_many w parts inner body g place a e)
+    same_many w parts (after_scan x (at_end w parts inner body)) rest g index a
+    (same_many w parts inner body g index a e)

@@ -1,8 +1,6 @@
 -- The visits that a refusal tells fit 128 bits.
-use Rattle.std.proofs.Common.{◌≡◌, ℕ, ◌*◌, ◌^◌, ◌≤◌, ◌<◌, Some, arith, subst}
-use Rattle.star_safety.proofs.Common.{Code, Each, IsWithinLimits, Parts, Stop, TableId, Then, TooCostly, World, code_size, first_refusal, pow-le-pow_right, quote, scan_depth, turns_met}
-use Rattle.star_safety.proofs.Nested.{body_nested, rest_nested, met_within}
-use Rattle.std.proofs.lemmas.Grind.{common_steps}
+use Rattle.std.proofs.{Common.{◌≡◌, ℕ, ◌*◌, ◌^◌, ◌≤◌, ◌<◌, Some, arith, subst}, lemmas.Grind.common_steps}
+use Rattle.star_safety.proofs.{Common.{Code, Each, IsWithinLimits, Parts, Stop, TableId, Then, TooCostly, World, code_size, first_refusal, pow-le-pow_right, quote, scan_depth, turns_met}, Nested.{body_nested, rest_nested, met_within}}
 
 module _ (size : TableId → ℕ) (small : (t : TableId) → size t < 2 ^ 32) where
   -- of each instruction, met as often as scans that stand one in another allow

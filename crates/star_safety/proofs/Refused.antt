@@ -1,8 +1,6 @@
 -- What refuses a program, if anything does.
-use Rattle.std.proofs.Common.{◌≡◌, ℕ, ◌≤◌, Bool, true, false, None, refl, arith}
-use Rattle.star_safety.proofs.Common.{IsAdmissible, Parts, World, all_without_answer, cost_refusal, first_answer_none, first_refusal, le-leb, or_none, quote}
-use Rattle.star_safety.proofs.Instructions.{both_none}
-use Rattle.std.proofs.lemmas.Grind.{common_steps}
+use Rattle.std.proofs.{Common.{◌≡◌, ℕ, ◌≤◌, Bool, true, false, None, refl, arith}, lemmas.Grind.common_steps}
+use Rattle.star_safety.proofs.{Common.{IsAdmissible, Parts, World, all_without_answer, cost_refusal, first_answer_none, first_refusal, le-leb, or_none, quote}, Instructions.both_none}
 
 cheap : (visits : ℕ) (b : Bool) → cost_refusal visits b ≡ None → b ≡ true
 cheap visits true e = refl

@@ -1,11 +1,7 @@
 -- The report of an accepted program has no more rows than are known before its run.
-use Rattle.std.proofs.Common.{◌≡◌, ℕ, suc, ◌≤◌, Bool, true, false, List, [], ◌∷◌, Option, Some, None, length, map, refl, sym, ap, subst, ◌∙◌, arith, ⊎_elim, true≢false}
-use Rattle.star_safety.proofs.Common.{AllByRecursion, AreReportRows, Contains, End, Ended, EndsWith, Greater, GroupDecl, GroupKey, GroupRow, IsAccepted, IsDistinct, IsGroup, IsMasked, IsOutcome, IsStrictlySortedBy, KeyValue, Limited, Ordering, Outcome, Parts, SortKey, State, Trapped, Update, World, all_key_shares, all_shares, at_each, at_first, contains_here, contains_later, contains_mapped, decoded_row, empty_state, from_contains_map, group_at, int_cmp_total, is_grouping, is_lt, key_cmp, key_decides, key_eq, key_value_cmp, length-map, length-replicate, lists_total, members, most_of, most_report_rows, nat_cmp_total, no_registers, of_each, ordering_reverse, ordering_then, pos, row_cmp, rows_of_groupings, run_of, shown_cells, shown_fault, slice_cmp, slice_index_or, sort_cmp, total_cmp, totals_of, unless_unshown, value_cmp}
-use Rattle.std.specs.declared.cmp.Ordering.TheVariants.{Less, Equal}
+use Rattle.std.{proofs.Common.{◌≡◌, ℕ, suc, ◌≤◌, Bool, true, false, List, [], ◌∷◌, Option, Some, None, length, map, refl, sym, ap, subst, ◌∙◌, arith, ⊎_elim, true≢false}, specs.declared.cmp.Ordering.TheVariants.{Less, Equal}, proofs.lemmas.Grind.common_steps}
+use Rattle.star_safety.proofs.{Common.{AllByRecursion, AreReportRows, Contains, End, Ended, EndsWith, Greater, GroupDecl, GroupKey, GroupRow, IsAccepted, IsDistinct, IsGroup, IsMasked, IsOutcome, IsStrictlySortedBy, KeyValue, Limited, Ordering, Outcome, Parts, SortKey, State, Trapped, Update, World, all_key_shares, all_shares, at_each, at_first, contains_here, contains_later, contains_mapped, decoded_row, empty_state, from_contains_map, group_at, int_cmp_total, is_grouping, is_lt, key_cmp, key_decides, key_eq, key_value_cmp, length-map, length-replicate, lists_total, members, most_of, most_report_rows, nat_cmp_total, no_registers, of_each, ordering_reverse, ordering_then, pos, row_cmp, rows_of_groupings, run_of, shown_cells, shown_fault, slice_cmp, slice_index_or, sort_cmp, total_cmp, totals_of, unless_unshown, value_cmp}, Always.accepted_throughout, FewGroups.{AreAmong, IsOne, few_groups, sizes}, Runs.ends, Tally.most_is, PutKeys.{AreListed, KeysAmong, all_listed, each_listed, kept, same_many, sizes_are}}
 use Rattle.star_schema.specs.Tables.{Value, Number, Text}
-use Rattle.star_safety.proofs.{Always.accepted_throughout, FewGroups.AreAmong, FewGroups.IsOne, FewGroups.few_groups, FewGroups.sizes, Runs.ends, Tally.most_is}
-use Rattle.star_safety.proofs.PutKeys.{AreListed, KeysAmong, all_listed, each_listed, kept, same_many, sizes_are}
-use Rattle.std.proofs.lemmas.Grind.{common_steps}
 
 -- ---- no row stands before itself
 
@@ -124,11 +120,11 @@ length-among (k ∷ ks) (vs ∷ vss) h = ap suc (length-among ks vss h.1)
 length-among [] (vs ∷ vss) h = absurd h
 length-among (k ∷ ks) [] h = absurd h
 
-length-each_listed : (w : World) (parts : Parts) (g place : ℕ) (keys : List GroupKey)
-    → length (each_listed w parts g place keys) ≡ length keys
-length-each_listed w parts g place [] = refl
-length-each_listed w parts g place (key ∷ keys) =
-    ap suc (length-each_listed w parts g (suc place) keys)
+length-each_listed : (w : World) (parts : Parts) (g index : ℕ) (keys : List GroupKey)
+    → length (each_listed w parts g index keys) ≡ length keys
+length-each_listed w parts g index [] = refl
+length-each_listed w parts g index (key ∷ keys) =
+    ap suc (length-each_listed w parts g (suc index) keys)
 
 -- ---- the rows of a report
 
@@ -204,14 +200,14 @@ module _ (w : World) (parts : Parts) where
   ends_unshown : (o : Option ℕ) (go : Unit {0} → End) (Done : State → Type 0) → o ≡ None
       → EndsWith (go tt) Done → EndsWith (unless_unshown o go) Done
   ends_unshown None go Done e h = h
-  ends_unshown (Some place) go Done e h = absurd (cc)
+  ends_unshown (Some index) go Done e h = absurd (cc)
 
   listed_end : IsAccepted w parts
       → EndsWith (run_of w parts) (AreListed w parts parts.report values)
   listed_end accepted = ends_unshown (shown_fault parts) _ _ accepted.admissible.report
       (kept w parts parts.report values (all_shares w parts) parts.body 1 at_first no_registers
       empty_state (accepted_throughout w parts accepted)
-      (all_listed w parts parts.report parts.body at_first (λ r. tt) (λ place s h. h)) tt)
+      (all_listed w parts parts.report parts.body at_first (λ r. tt) (λ index s h. h)) tt)
 
   few_end : IsAccepted w parts
       → EndsWith (run_of w parts) (λ s. length (s.updates_of parts.report) ≤ most)

@@ -1,13 +1,6 @@
 -- The run of an admissible program: it ends with no trap, within its quote.
-use Rattle.std.proofs.Common.{◌≡◌, ℕ, zero, suc, ◌+◌, ◌*◌, ◌^◌, ◌≤◌, ◌<◌, Bool, true, Option, Some, None, refl, sym, subst, arith, zero-add, le_refl, lt_of_lt_of_le, ◌∙◌}
-use Rattle.star_safety.proofs.Common.{Agrees, BadRegister, Code, Context, Each, End, Ended, EndsWith, Faulty, IsAccepted, IsLoaded, KnownRow, Limited, List, Parts, Registers, Row, Share, State, Stop, Then, Trapped, World, WrittenTwice, act, after, after_op, after_scan, all_shares, and_from, at_end, at_first, at_place, code_puts_to, code_size, empty_state, first_answer_none, first_reason, group_at, in_scan, instructions_of, meaning, meaning_of, mul-le-mul_left, mul-le-mul_right, nat_lt, neg_ℤ, no_registers, none_open, not, op_reason, open_with, or_none, or_parts, pos, quote, reason_of, run_while, scan_reason, shown_fault, turns, turns_met, unless, unless_none, unless_unshown, unsigned_abs, with_entry}
-use Rattle.star_safety.proofs.Tally.{no_tally, plus, times, Tallies, no_tallies, plus_all, times_all, tally_of, sum_fits, sum_range_is, most_is}
-use Rattle.star_safety.proofs.TallyOrder.{AtMost, at_most_refl, at_most_trans, at_most_plus, at_most_assoc, at_most_both, at_most_once}
-use Rattle.star_safety.proofs.Gains.{op_gain, op_counted, gain, gained, whole_gain}
-use Rattle.star_safety.proofs.{Forward.first_standing, Tallied.tallies_fit, Tallied.all_tallies_fit, Instructions.unmapped_none, Instructions.agrees_entry, Instructions.AreTallied, Instructions.act_good, NarrowRanges.AllNarrow, NarrowRanges.sum_small, NarrowCode.end_fits, NarrowCode.first_fits}
-use Rattle.star_safety.proofs.Turns.{Safe, all_tallied_more, safe_more, safe_follow, safe_scans, safe_each}
-use Rattle.star_safety.proofs.Sound.{quoted_each, in_time, at_place_none, IsReady, ready_then, ready_in, ready_after, op_room}
-use Rattle.std.proofs.lemmas.Grind.{common_steps}
+use Rattle.std.proofs.{Common.{◌≡◌, ℕ, zero, suc, ◌+◌, ◌*◌, ◌^◌, ◌≤◌, ◌<◌, Bool, true, Option, Some, None, refl, sym, subst, arith, zero-add, le_refl, lt_of_lt_of_le, ◌∙◌}, lemmas.Grind.common_steps}
+use Rattle.star_safety.proofs.{Common.{Agrees, BadRegister, Code, Context, Each, End, Ended, EndsWith, Faulty, IsAccepted, IsLoaded, KnownRow, Limited, List, Parts, Registers, Row, Share, State, Stop, Then, Trapped, World, WrittenTwice, act, after, after_op, after_scan, all_shares, and_from, at_end, at_first, at_position, code_puts_to, code_size, empty_state, first_answer_none, first_reason, group_at, in_scan, instructions_of, meaning, meaning_of, mul-le-mul_left, mul-le-mul_right, nat_lt, neg_ℤ, no_registers, none_open, not, op_reason, open_with, or_none, or_parts, pos, quote, reason_of, run_while, scan_reason, shown_fault, turns, turns_met, unless, unless_none, unless_unshown, unsigned_abs, with_entry}, Tally.{no_tally, plus, times, Tallies, no_tallies, plus_all, times_all, tally_of, sum_fits, sum_range_is, most_is}, TallyOrder.{AtMost, at_most_refl, at_most_trans, at_most_plus, at_most_assoc, at_most_both, at_most_once}, Gains.{op_gain, op_counted, gain, gained, whole_gain}, Forward.first_standing, Tallied.{tallies_fit, all_tallies_fit}, Instructions.{unmapped_none, agrees_entry, AreTallied, act_good}, NarrowRanges.{AllNarrow, sum_small}, NarrowCode.{end_fits, first_fits}, Turns.{Safe, all_tallied_more, safe_more, safe_follow, safe_scans, safe_each}, Sound.{quoted_each, in_time, at_position_none, IsReady, ready_then, ready_in, ready_after, op_room}}
 
 abbrev pub AllFit : Parts → Tallies → Type 0
 AllFit parts m = (g : ℕ) → tallies_fit (group_at parts g).aggregates 0 (m g) ≡ true
@@ -15,9 +8,8 @@ AllFit parts m = (g : ℕ) → tallies_fit (group_at parts g).aggregates 0 (m g)
 module _ (w : World) (catalogue : IsLoaded w) (parts : Parts) (may : ℕ → Bool) (m : Tallies)
     (fit : AllFit parts m) where
   pub sound : (c : Code) (at : ℕ) (pending : ℕ → Bool) (x : Context) (y : Tallies)
-      (regs : Registers) (s : State)
-      → IsReady w parts m pending x y at c → Agrees w x.known regs → AreTallied y s
-      → ((k : ℕ) → k < s.visits + turns_met w.size 1 c → may k ≡ true)
+      (regs : Registers) (s : State) → IsReady w parts m pending x y at c → Agrees w x.known regs
+      → AreTallied y s → ((k : ℕ) → k < s.visits + turns_met w.size 1 c → may k ≡ true)
       → Safe (plus_all y (gain w parts x c)) (s.visits + turns_met w.size 1 c)
       (meaning w parts may c at x.inside regs s)
   sound Stop at pending x y regs s ready agrees tallied allowed = (
@@ -31,8 +23,8 @@ module _ (w : World) (catalogue : IsLoaded w) (parts : Parts) (may : ℕ → Boo
       (plus_all y (plus_all add more)) s.visits (s.visits + turns_met w.size 1 rest) at
       (act w parts x.inside regs s op) (meaning w parts may rest (at + 1) x.inside)
       (act_good w catalogue parts x y regs s agrees tallied (open_with pending rest) op m
-      (at_place_none at _
-      (or_none (at_place at (op_reason w parts (open_with pending rest) x op))
+      (at_position_none at _
+      (or_none (at_position at (op_reason w parts (open_with pending rest) x op))
       _ ready.accepted).0)
       (λ g a o. ready.closed g a (or_parts (pending g) (code_puts_to g rest) o).0)
       (op_room w parts m pending x y at op rest ready)
@@ -56,10 +48,10 @@ module _ (w : World) (catalogue : IsLoaded w) (parts : Parts) (may : ℕ → Boo
       let turn : ℕ → State → End =
       λ j. meaning w parts may body (at + 1) true (with_entry regs r (Row table j)) in
       let next : State → End = meaning w parts may rest (at + 1 + code_size body) x.inside regs in
-      let p = or_none (at_place at (scan_reason parts x r)) _ ready.accepted in
+      let p = or_none (at_position at (scan_reason parts x r)) _ ready.accepted in
       let here = or_none (unless (nat_lt r parts.registers) BadRegister)
       (unless (not (x.written r)) WrittenTwice)
-      (unmapped_none Faulty _ (at_place_none at (scan_reason parts x r) p.0)) in
+      (unmapped_none Faulty _ (at_position_none at (scan_reason parts x r) p.0)) in
       let whole = quoted_each w table r body rest in
       let allowed' : (k : ℕ)
       → k < s.visits + (rows * (turns_met w.size 1 body + 1) + turns_met w.size 1 rest)
@@ -200,7 +192,7 @@ safe_ends y v Limited Done h done = h
 ends_shown : (o : Option ℕ) (go : Unit {0} → End) (Done : State → Type 0) → o ≡ None
     → EndsWith (go tt) Done → EndsWith (unless_unshown o go) Done
 ends_shown None go Done e h = h
-ends_shown (Some place) go Done e h = absurd (cc)
+ends_shown (Some index) go Done e h = absurd (cc)
 
 pub ends : (w : World) (parts : Parts) (may : ℕ → Bool) → IsAccepted w parts
     → ((k : ℕ) → k < quote w.size parts → may k ≡ true) → (Done : State → Type 0)

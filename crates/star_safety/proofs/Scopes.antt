@@ -1,7 +1,6 @@
 -- Which scans stand round which instructions, by their numbers.
-use Rattle.std.proofs.Common.{◌≡◌, ℕ, ◌+◌, ◌≤◌, ◌<◌, Bool, true, false, List, [], ◌∷◌, ◌++◌, length, get_or, Option, Some, None, refl, ap, ◌∙◌, arith, append-nil}
+use Rattle.std.proofs.{Common.{◌≡◌, ℕ, ◌+◌, ◌≤◌, ◌<◌, Bool, true, false, List, [], ◌∷◌, ◌++◌, length, get_or, Option, Some, None, refl, ap, ◌∙◌, arith, append-nil}, lemmas.Grind.common_steps}
 use Rattle.star_safety.proofs.Common.{AllByRecursion, Any-from_list_any, Code, Context, Each, Enclosing, Parts, Standing, Stop, Then, World, after_op, after_scan, and_right, at_end, code_size, eq-eqb, eqb-true, filter, filter-append, has_scan, if◌then◌else◌, in_scan, is_in_scope, last_or, last_writer, list_all, list_all_at, list_any, list_any_at, nat_eq, ne_eqb, or_right, scope_of, standing, writes_to, ◌&&◌, ◌||◌}
-use Rattle.std.proofs.lemmas.Grind.{common_steps}
 
 -- ---- scans by their numbers
 

@@ -1,8 +1,7 @@
 -- Ranges whose ends are no larger than a number.
-use Rattle.std.proofs.Common.{◌≡◌, ℕ, ◌+◌, ◌*◌, ◌^◌, ◌≤◌, ◌<◌, Bool, true, false, cond, arith, int_lt}
+use Rattle.std.proofs.{Common.{◌≡◌, ℕ, ◌+◌, ◌*◌, ◌^◌, ◌≤◌, ◌<◌, Bool, true, false, cond, arith, int_lt}, lemmas.Grind.common_steps}
 use Rattle.star_safety.proofs.Common.{FitsI128, FitsI64, Range, and_parts, corner_range, fits_i64, fits_signed_from_abs, hull, ints, is_i64, ltb-true, mul-le-mul_left, mul-le-mul_right, multiple_range, negsuc, only, pos, unsigned_abs, unsigned_abs-mul, w128, widened, ℤ, ◌*ℤ◌, ◌+ℤ◌, ◌-ℤ◌, ◌≤ℤ◌}
 use Rattle.star_interval.proofs.Ranges as ranges
-use Rattle.std.proofs.lemmas.Grind.{common_steps}
 
 abbrev pub Small : ℕ → Range → Type 0
 Small n r = (unsigned_abs r.low ≤ n) × (unsigned_abs r.high ≤ n)

@@ -1,10 +1,6 @@
 -- An admissible program never traps and makes no more turns than its quote.
-use Rattle.std.proofs.Common.{◌≡◌, ℕ, ◌+◌, ◌*◌, ◌≤◌, ◌<◌, Bool, true, false, Option, Some, None, refl, arith}
-use Rattle.star_safety.proofs.Common.{Code, Context, Each, Op, Parts, Put, Stop, TableId, Then, World, after_op, after_scan, at_end, at_place, code_puts_to, code_size, first_reason, group_at, if◌then◌else◌, in_scan, mul-le-mul_right, nat_eq, op_puts_to, op_reason, open_with, or_none, or_parts, scan_reason, turns_met}
-use Rattle.star_safety.proofs.Tally.{Tally, no_tally, plus, times, Tallies, plus_all, times_all, tally_of}
-use Rattle.star_safety.proofs.Gains.{put_tally, op_gain, op_gained, gain, scan_gained}
-use Rattle.star_safety.proofs.TallyOrder.{AtMost, at_most_refl, at_most_trans, at_most_plus, at_most_assoc, at_most_both, at_most_turn, at_most_times, at_most_once, at_most_times_both, at_most_nothing}
-use Rattle.std.proofs.lemmas.Grind.{common_steps}
+use Rattle.std.proofs.{Common.{◌≡◌, ℕ, ◌+◌, ◌*◌, ◌≤◌, ◌<◌, Bool, true, false, Option, Some, None, refl, arith}, lemmas.Grind.common_steps}
+use Rattle.star_safety.proofs.{Common.{Code, Context, Each, Op, Parts, Put, Stop, TableId, Then, World, after_op, after_scan, at_end, at_position, code_puts_to, code_size, first_reason, group_at, if◌then◌else◌, in_scan, mul-le-mul_right, nat_eq, op_puts_to, op_reason, open_with, or_none, or_parts, scan_reason, turns_met}, Tally.{Tally, no_tally, plus, times, Tallies, plus_all, times_all, tally_of}, Gains.{put_tally, op_gain, op_gained, gain, scan_gained}, TallyOrder.{AtMost, at_most_refl, at_most_trans, at_most_plus, at_most_assoc, at_most_both, at_most_turn, at_most_times, at_most_once, at_most_times_both, at_most_nothing}}
 
 -- ---- the quote
 
@@ -28,9 +24,9 @@ quoted_each w table r body rest = grind (arith, common_steps, turns_met, quoted-
 
 -- ---- what is put
 
-pub at_place_none : {A : Type 0} (n : ℕ) (o : Option A) → at_place n o ≡ None → o ≡ None
-at_place_none n None e = refl
-at_place_none n (Some x) e = absurd (cc)
+pub at_position_none : {A : Type 0} (n : ℕ) (o : Option A) → at_position n o ≡ None → o ≡ None
+at_position_none n None e = refl
+at_position_none n (Some x) e = absurd (cc)
 
 if_false : (b : Bool) (t : Tally) → b ≡ false → AtMost (if b then t else no_tally) no_tally
 if_false true t e = absurd (cc)
@@ -86,7 +82,7 @@ ready_then w parts m pending x y at op rest ready =
     let add = op_gain parts x op in
     record {
       some = ready.some;
-      accepted = (or_none (at_place at (op_reason w parts (open_with pending rest) x op)) _
+      accepted = (or_none (at_position at (op_reason w parts (open_with pending rest) x op)) _
           ready.accepted).1;
       closed = λ g a o. at_most_trans _ _ _
           (at_most_both (y g a) (tally_of (x.so_far g a)) (add g a) (times x.met (add g a))
@@ -99,16 +95,15 @@ ready_then w parts m pending x y at op rest ready =
 
 -- in a scan, before turn j
 pub ready_in : (w : World) (parts : Parts) (m : Tallies) (pending : ℕ → Bool) (x : Context)
-    (y : Tallies) (at : ℕ)
-    (table : TableId) (r : ℕ) (body rest : Code) → IsReady w parts m pending x y at
-    (Each table r body rest) → (j : ℕ) → j < w.size table
+    (y : Tallies) (at : ℕ) (table : TableId) (r : ℕ) (body rest : Code)
+    → IsReady w parts m pending x y at (Each table r body rest) → (j : ℕ) → j < w.size table
     → IsReady w parts m (open_with pending (Each table r body rest)) (in_scan w x table r)
     (plus_all y (times_all j (gain w parts (in_scan w x table r) body))) (at + 1) body
 ready_in w parts m pending x y at table r body rest ready j lt =
     let inner = in_scan w x table r in
     let add = gain w parts inner body in
     let rows = w.size table in
-    let p = or_none (at_place at (scan_reason parts x r)) _ ready.accepted in
+    let p = or_none (at_position at (scan_reason parts x r)) _ ready.accepted in
     let more = gain w parts (after_scan x (at_end w parts inner body)) rest in
     record {
       some = met_once x.met rows j ready.some lt;
@@ -137,16 +132,15 @@ ready_in w parts m pending x y at table r body rest ready j lt =
 
 -- after a scan
 pub ready_after : (w : World) (parts : Parts) (m : Tallies) (pending : ℕ → Bool) (x : Context)
-    (y : Tallies) (at : ℕ)
-    (table : TableId) (r : ℕ) (body rest : Code) → IsReady w parts m pending x y at
-    (Each table r body rest) → IsReady w parts m pending
-    (after_scan x (at_end w parts (in_scan w x table r) body))
+    (y : Tallies) (at : ℕ) (table : TableId) (r : ℕ) (body rest : Code)
+    → IsReady w parts m pending x y at (Each table r body rest)
+    → IsReady w parts m pending (after_scan x (at_end w parts (in_scan w x table r) body))
     (plus_all y (times_all (w.size table) (gain w parts (in_scan w x table r) body)))
     (at + 1 + code_size body) rest
 ready_after w parts m pending x y at table r body rest ready =
     let inner = in_scan w x table r in
     let add = times_all (w.size table) (gain w parts inner body) in
-    let p = or_none (at_place at (scan_reason parts x r)) _ ready.accepted in
+    let p = or_none (at_position at (scan_reason parts x r)) _ ready.accepted in
     record {
       some = ready.some;
       accepted = (or_none (first_reason w parts (open_with pending (Each table r body rest))

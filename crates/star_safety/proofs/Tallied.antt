@@ -1,11 +1,7 @@
 -- Tallies hold what numbers add up to.
-use Rattle.std.proofs.Common.{◌≡◌, ℕ, suc, ◌+◌, ◌^◌, ◌≤◌, ◌<◌, Bool, true, false, List, [], ◌∷◌, length, Option, Some, None, refl, sym, ap, subst, ◌∙◌, arith}
-use Rattle.star_safety.proofs.Common.{Aggregate, Count, Holds, KeyValue, Max, Min, Range, Share, Sum, TotalLies, Update, aggregate, aggregate_range, and_from, and_parts, belongs, clamps, cond, count_small, holds_within, hull_with, int_max, int_min, ints, is_i128, joined, joined_with, key_value_cmp, le-leb, leaves, leb-true, list_any, lt-ltb, ltb-true, members, nat_le, nat_lt, negsuc, not, numbers_for, only, or_from, pos, read_range, some_leaves, sum_of, unwrap_or, ℤ, ◌&&◌, ◌+ℤ◌}
+use Rattle.std.proofs.{Common.{◌≡◌, ℕ, suc, ◌+◌, ◌^◌, ◌≤◌, ◌<◌, Bool, true, false, List, [], ◌∷◌, length, Option, Some, None, refl, sym, ap, subst, ◌∙◌, arith}, lemmas.Grind.common_steps}
+use Rattle.star_safety.proofs.{Common.{Aggregate, Count, Holds, KeyValue, Max, Min, Range, Share, Sum, TotalLies, Update, aggregate, aggregate_range, and_from, and_parts, belongs, clamps, cond, count_small, holds_within, hull_with, int_max, int_min, ints, is_i128, joined, joined_with, key_value_cmp, le-leb, leaves, leb-true, list_any, lt-ltb, ltb-true, members, nat_le, nat_lt, negsuc, not, numbers_for, only, or_from, pos, read_range, some_leaves, sum_of, unwrap_or, ℤ, ◌&&◌, ◌+ℤ◌}, Tally.{Tally, once, joined_range, plus, tally_of, tally_sum, tally_range, sum_fits, range_is}, Numbers.{holds_itself, holds_hull_left, holds_hull_right, fits_in, up_grows}, TallyOrder.{LiesIn, lies_in_right, AtMost}}
 use borrow.Author.Differences.{up, down, sum_is_lem}
-use Rattle.star_safety.proofs.Tally.{Tally, once, joined_range, plus, tally_of, tally_sum, tally_range, sum_fits, range_is}
-use Rattle.star_safety.proofs.Numbers.{holds_itself, holds_hull_left, holds_hull_right, fits_in, up_grows}
-use Rattle.star_safety.proofs.TallyOrder.{LiesIn, lies_in_right, AtMost}
-use Rattle.std.proofs.lemmas.Grind.{common_steps}
 
 -- ---- sums, by the sign of their numbers
 
@@ -71,7 +67,7 @@ counted_fits Sum t = sum_fits t
 counted_fits Count t = nat_lt t.many (2 ^ 63)
 counted_fits _ t = true
 
--- each SUM and each COUNT, from the aggregate at a place on
+-- each SUM and each COUNT, from the aggregate at a position on
 abbrev pub tallies_fit : List Aggregate → ℕ → (ℕ → Tally) → Bool
 tallies_fit [] a t = true
 tallies_fit (g ∷ gs) a t = counted_fits g (t a) && tallies_fit gs (suc a) t

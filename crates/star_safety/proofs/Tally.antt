@@ -1,9 +1,8 @@
 -- What numbers add up to, as two whole numbers: how far the negative ones go below 0, and the
 -- positive ones above it. So all that is said of sums is linear.
-use Rattle.std.proofs.Common.{◌≡◌, ℕ, zero, suc, ◌+◌, ◌*◌, ◌^◌, Bool, List, [], ◌∷◌, Option, Some, None, refl, ap, ◌∙◌, arith}
+use Rattle.std.proofs.{Common.{◌≡◌, ℕ, zero, suc, ◌+◌, ◌*◌, ◌^◌, Bool, List, [], ◌∷◌, Option, Some, None, refl, ap, ◌∙◌, arith}, lemmas.Grind.common_steps}
 use Rattle.star_safety.proofs.Common.{Aggregate, Count, IsOrdered, Max, Min, Range, Share, Shares, Sum, aggregate_range, clamps, corner_range, hull, hull_of, hull_with, int_max, int_min, ints, most_of, multiple_range, nat_le, nat_lt, neg_ℤ, negsuc, pos, range_same, sum_ends, sum_range, widened, ℤ, ◌&&◌, ◌*ℤ◌, ◌+ℤ◌}
 use borrow.Author.Differences.{up, down}
-use Rattle.std.proofs.lemmas.Grind.{common_steps}
 
 -- of the numbers that updates give an aggregate
 pub record Tally : Type 0 where

@@ -1,8 +1,6 @@
 -- One tally allows no more than another.
-use Rattle.std.proofs.Common.{ℕ, ◌+◌, ◌*◌, ◌≤◌, Option, Some, None, arith}
-use Rattle.star_safety.proofs.Common.{IsWithin, Range, hull_within, ints, mul-le-mul_left, mul-le-mul_right, within_hull_left, within_hull_right, within_trans}
-use Rattle.star_safety.proofs.Tally.{Tally, no_tally, joined_range, plus, times}
-use Rattle.std.proofs.lemmas.Grind.{common_steps}
+use Rattle.std.proofs.{Common.{ℕ, ◌+◌, ◌*◌, ◌≤◌, Option, Some, None, arith}, lemmas.Grind.common_steps}
+use Rattle.star_safety.proofs.{Common.{IsWithin, Range, hull_within, ints, mul-le-mul_left, mul-le-mul_right, within_hull_left, within_hull_right, within_trans}, Tally.{Tally, no_tally, joined_range, plus, times}}
 
 -- a range that may be missing lies in another
 abbrev pub LiesIn : Option Range → Option Range → Type 0

@@ -1,8 +1,6 @@
 -- The context of each instruction is told by the scans round it and the instructions before it.
-use Rattle.std.proofs.Common.{◌≡◌, ℕ, ◌+◌, ◌*◌, ◌≤◌, true, false, List, [], ◌∷◌, ◌++◌, length, Option, Some, None, refl, sym, ap, subst, ◌∙◌, arith, append_assoc, append-nil, length-append}
-use Rattle.star_safety.proofs.Common.{Act, AllKnown, BodyEnd, Code, CodeItem, Context, Each, Enclosing, IsTold, Op, Parts, Scan, Standing, Stop, TableId, Then, World, after_op, after_scan, at_end, at_first, code_size, eq-eqb, eqb-false, eqb-true, filter, filter-append, fold-append, has_scan, if◌then◌else◌, in_scan, instructions_of, is_instruction, is_target, item_key_shares, key_shares_together, last_or, last_writer, learned, list_any, list_any-append, lt-ltb, nat_eq, nat_lt, ne_eqb, op_key_shares, op_shares, option_map, or-false, result_known, rows_together, scope_of, shares_of, shares_together, standing, standing_result, target_of, with_entry, writes_to, ◌&&◌, ◌||◌}
-use Rattle.star_safety.proofs.Scopes.{AreBelow, below_more, none_above, all_there, not_all, EachOf, each_both, each_so, scoped_in, last_or_both, last_then, last_past, last_within}
-use Rattle.std.proofs.lemmas.Grind.{common_steps}
+use Rattle.std.proofs.{Common.{◌≡◌, ℕ, ◌+◌, ◌*◌, ◌≤◌, true, false, List, [], ◌∷◌, ◌++◌, length, Option, Some, None, refl, sym, ap, subst, ◌∙◌, arith, append_assoc, append-nil, length-append}, lemmas.Grind.common_steps}
+use Rattle.star_safety.proofs.{Common.{Act, AllKnown, BodyEnd, Code, CodeItem, Context, Each, Enclosing, IsTold, Op, Parts, Scan, Standing, Stop, TableId, Then, World, after_op, after_scan, at_end, at_first, code_size, eq-eqb, eqb-false, eqb-true, filter, filter-append, fold-append, has_scan, if◌then◌else◌, in_scan, instructions_of, is_instruction, is_target, item_key_shares, key_shares_together, last_or, last_writer, learned, list_any, list_any-append, lt-ltb, nat_eq, nat_lt, ne_eqb, op_key_shares, op_shares, option_map, or-false, result_known, rows_together, scope_of, shares_of, shares_together, standing, standing_result, target_of, with_entry, writes_to, ◌&&◌, ◌||◌}, Scopes.{AreBelow, below_more, none_above, all_there, not_all, EachOf, each_both, each_so, scoped_in, last_or_both, last_then, last_past, last_within}}
 
 -- ---- from context to context
 
@@ -15,8 +13,8 @@ pub record Tells (w : World) (parts : Parts) (round : List Enclosing) (x : Conte
   pub written : (r : ℕ) → x.written r ≡ list_any (writes_to r) earlier
   pub known : (r : ℕ) → x.known r
       ≡ option_map (standing_result w parts) (last_writer round r earlier)
-  pub so_far : (g place : ℕ) → x.so_far g place ≡ shares_together parts earlier g place
-  pub keys_so_far : (g place : ℕ) → x.keys_so_far g place ≡ key_shares_together earlier g place
+  pub so_far : (g index : ℕ) → x.so_far g index ≡ shares_together parts earlier g index
+  pub keys_so_far : (g index : ℕ) → x.keys_so_far g index ≡ key_shares_together earlier g index
   pub numbered : EachOf (λ i. i.number ≤ at) earlier
   pub round_below : AreBelow at round
   pub scopes_below : EachOf (λ i. AreBelow at (scope_of i)) earlier
@@ -32,11 +30,11 @@ numbered_more : (at : ℕ) (earlier : List Standing) (i : Standing) → i.number
 numbered_more at earlier i here h =
     each_both _ earlier (i ∷ []) (each_so _ _ earlier (λ j b. omega (arith, b)) h) (here, tt)
 
-keys_more : (earlier : List Standing) (i : Standing) (g place : ℕ)
-    → key_shares_together (earlier ++ i ∷ []) g place
-    ≡ item_key_shares i.context i.item g place ++ key_shares_together earlier g place
-keys_more earlier i g place =
-    fold-append (λ so_far j. item_key_shares j.context j.item g place ++ so_far) [] earlier (i ∷ [])
+keys_more : (earlier : List Standing) (i : Standing) (g index : ℕ)
+    → key_shares_together (earlier ++ i ∷ []) g index
+    ≡ item_key_shares i.context i.item g index ++ key_shares_together earlier g index
+keys_more earlier i g index =
+    fold-append (λ so_far j. item_key_shares j.context j.item g index ++ so_far) [] earlier (i ∷ [])
 
 -- a register of the context after an instruction that writes one
 entry_or_kept : (w : World) (parts : Parts) (known : AllKnown) (t r : ℕ) (i : Standing)

@@ -1,10 +1,6 @@
 -- Every bound that a refusal tells fits 128 bits.
-use Rattle.std.proofs.Common.{◌≡◌, ℕ, ◌+◌, ◌*◌, ◌^◌, ◌≤◌, Bool, false, List, Option, Some, None, refl, ap, subst, ◌∙◌, arith, lit<, ◌⊎◌, inl, inr, ⊎_elim}
-use Rattle.star_safety.proofs.Common.{AllNameI64, AreI64, Assign, Code, ColumnId, Context, Each, Fault, Faulty, FitsI128, FitsI64, IsWithinLimits, Keep, Known, NamesI64, Op, Overflow, Parts, Put, Range, Reached, Read, Reason, Refused, Stop, Then, World, after_op, after_scan, at_end, at_first, at_place, code_size, first_answer, first_reason, first_refusal, fits_i64, in_scan, instructions_of, is_text, kind_reason, leb-true, most_of, mul-le-mul_right, none_open, only, op_reason, open_with, option_map, option_or, overflow_of, pos, put_share, quote, range_reason, reason_of, refuses, result_known, scan_reason, source_reason, turns_met}
-use Rattle.star_safety.proofs.{Sound.at_place_none, Forward.first_standing, Sizes.small_fits}
-use Rattle.star_safety.proofs.NarrowRanges.{Fits, Wide, IsWide, Counts, result_wide}
-use Rattle.star_safety.proofs.NarrowCode.{op_fits, in_fits, past_fits, end_fits, first_fits}
-use Rattle.std.proofs.lemmas.Grind.{common_steps}
+use Rattle.std.proofs.{Common.{◌≡◌, ℕ, ◌+◌, ◌*◌, ◌^◌, ◌≤◌, Bool, false, List, Option, Some, None, refl, ap, subst, ◌∙◌, arith, lit<, ◌⊎◌, inl, inr, ⊎_elim}, lemmas.Grind.common_steps}
+use Rattle.star_safety.proofs.{Common.{AllNameI64, AreI64, Assign, Code, ColumnId, Context, Each, Fault, Faulty, FitsI128, FitsI64, IsWithinLimits, Keep, Known, NamesI64, Op, Overflow, Parts, Put, Range, Reached, Read, Reason, Refused, Stop, Then, World, after_op, after_scan, at_end, at_first, at_position, code_size, first_answer, first_reason, first_refusal, fits_i64, in_scan, instructions_of, is_text, kind_reason, leb-true, most_of, mul-le-mul_right, none_open, only, op_reason, open_with, option_map, option_or, overflow_of, pos, put_share, quote, range_reason, reason_of, refuses, result_known, scan_reason, source_reason, turns_met}, Sound.at_position_none, Forward.first_standing, Sizes.small_fits, NarrowRanges.{Fits, Wide, IsWide, Counts, result_wide}, NarrowCode.{op_fits, in_fits, past_fits, end_fits, first_fits}}
 
 -- ---- the range that a reason tells
 
@@ -87,7 +83,7 @@ end_count w parts (Each table r body rest) x h g a =
 
 -- ---- a whole program
 
-placed : {A : Type 0} (n m : ℕ) (o : Option A) (v : A) → at_place n o ≡ Some (m, v) → o ≡ Some v
+placed : {A : Type 0} (n m : ℕ) (o : Option A) (v : A) → at_position n o ≡ Some (m, v) → o ≡ Some v
 placed n m None v e = absurd (cc)
 placed n m (Some u) v e = ap (option_map (λ p. p.1)) e
 
@@ -109,11 +105,11 @@ module _ (w : World) (parts : Parts)
       (λ h. op_told w parts (open_with pending rest) x op r columns fits counts named.0 bounds
       (placed at n here (Overflow r.low r.high columns) h))
       (λ h. told rest pending (at + 1) (after_op w parts x op)
-      (op_fits w parts (open_with pending rest) x op fits (at_place_none at _ h.0))
+      (op_fits w parts (open_with pending rest) x op fits (at_position_none at _ h.0))
       named.1 met
       (λ g a. let one = one_put w parts x op g a in
       let room = many g a in omega (arith, one, room, met)) n r columns h.1)
-      (either_first (at_place at here) _ (n, Overflow r.low r.high columns) e)
+      (either_first (at_position at here) _ (n, Overflow r.low r.high columns) e)
   told (Each table q body rest) pending at x fits named met many n r columns e =
       let inner = in_scan w x table q in
       let within = open_with pending (Each table q body rest) in
@@ -135,7 +131,7 @@ module _ (w : World) (parts : Parts)
       omega (arith, b, inside)) n r columns k.1)
       (either_first (first_reason w parts within inner (at + 1) body) _
       (n, Overflow r.low r.high columns) h.1))
-      (either_first (at_place at (scan_reason parts x q)) _ (n, Overflow r.low r.high columns) e)
+      (either_first (at_position at (scan_reason parts x q)) _ (n, Overflow r.low r.high columns) e)
 
 pub refused_instruction : (w : World) (most : ℕ) (parts : Parts) (refused : ℕ × Reason)
     → first_refusal w most parts ≡ Some (Refused refused) → (quote w.size parts ≤ most)

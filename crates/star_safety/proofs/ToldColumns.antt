@@ -1,8 +1,6 @@
 -- The bounds of each column that a refusal tells fit 64 bits.
-use Rattle.std.proofs.Common.{◌≡◌, ℕ, zero, suc, ◌+◌, Bool, true, false, List, [], ◌∷◌, Option, Some, None, sym, ap, subst, ◌∙◌, arith}
-use Rattle.star_safety.proofs.Common.{Aggregate, All, All-nil, AllByRecursion, AllKnown, AreI64, Assign, COLUMNS, Code, ColumnId, Context, Count, Each, Fault, Faulty, FitsI64, IfSome, Keep, Known, KnownFlag, KnownNumber, KnownPlace, KnownRow, KnownText, Op, Operator, Overflow, Parts, Put, Reach, Reached, Read, Reason, Refused, Stop, TableId, Then, World, after_op, after_scan, aligned, answer_known, at_end, at_first, at_place, code_size, column_same, filter, first_reason, first_refusal, fits_i64, group_at, in_scan, is_text, joined_reach, kind_reason, loaded_known, map, no_reach, none_open, not, op_reason, open_with, option_map, option_or, overflow_of, put_known, put_share, range_reason, reach_at, reach_of, reached, refuses, result_known, scan_reason, slice_index_or, source_reason, with_bounds, with_entry, ℤ}
-use Rattle.star_safety.proofs.{Forward.first_standing, ToldBounds.refused_instruction}
-use Rattle.std.proofs.lemmas.Grind.{common_steps}
+use Rattle.std.proofs.{Common.{◌≡◌, ℕ, zero, suc, ◌+◌, Bool, true, false, List, [], ◌∷◌, Option, Some, None, sym, ap, subst, ◌∙◌, arith}, lemmas.Grind.common_steps}
+use Rattle.star_safety.proofs.{Common.{Aggregate, All, All-nil, AllByRecursion, AllKnown, AreI64, Assign, COLUMNS, Code, ColumnId, Context, Count, Each, Fault, Faulty, FitsI64, IfSome, Keep, Known, KnownFlag, KnownNumber, KnownPlace, KnownRow, KnownText, Op, Operator, Overflow, Parts, Put, Reach, Reached, Read, Reason, Refused, Stop, TableId, Then, World, after_op, after_scan, aligned, answer_known, at_end, at_first, at_position, code_size, column_same, filter, first_reason, first_refusal, fits_i64, group_at, in_scan, is_text, joined_reach, kind_reason, loaded_known, map, no_reach, none_open, not, op_reason, open_with, option_map, option_or, overflow_of, put_known, put_share, range_reason, reach_at, reach_of, reached, refuses, result_known, scan_reason, slice_index_or, source_reason, with_bounds, with_entry, ℤ}, Forward.first_standing, ToldBounds.refused_instruction}
 
 -- ---- what numbers are computed from
 
@@ -118,7 +116,7 @@ source_found : (pending : ℕ → Bool) (x : Context) (op : Op) → Found (sourc
 source_found pending x op = grind (arith, common_steps, refused_found)
 
 placed_found : (at : ℕ) (reason : Option Reason) → Found reason
-    → IfSome (at_place at reason) (λ refused. Tells refused.1)
+    → IfSome (at_position at reason) (λ refused. Tells refused.1)
 placed_found at None h = tt
 placed_found at (Some reason) h = h
 
@@ -163,7 +161,7 @@ module _ (w : World) (parts : Parts)
       → IfSome (first_reason w parts pending x at c) (λ refused. Tells refused.1)
   first_found Stop pending at x h = tt
   first_found (Then op rest) pending at x h = either_of (λ refused. Tells refused.1)
-      (at_place at (op_reason w parts (open_with pending rest) x op))
+      (at_position at (op_reason w parts (open_with pending rest) x op))
       (first_reason w parts pending (after_op w parts x op) (at + 1) rest)
       (placed_found at _ (op_found (open_with pending rest) x op h))
       (first_found rest pending (at + 1) (after_op w parts x op) (after_reaches w parts x op h))
@@ -172,7 +170,7 @@ module _ (w : World) (parts : Parts)
       let inside = open_with pending (Each table r body rest) in
       let later = after_scan x (at_end w parts inner body) in
       let within = inside_reaches w x table r h in
-      either_of (λ refused. Tells refused.1) (at_place at (scan_reason parts x r)) _
+      either_of (λ refused. Tells refused.1) (at_position at (scan_reason parts x r)) _
       (placed_found at (scan_reason parts x r) (faulty_found _))
       (either_of (λ refused. Tells refused.1) (first_reason w parts inside inner (at + 1) body)
       (first_reason w parts pending later (at + 1 + code_size body) rest)

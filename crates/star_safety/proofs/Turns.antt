@@ -1,7 +1,6 @@
 -- A scan whose turns are safe is safe.
 use Rattle.std.proofs.Common.{◌≡◌, ℕ, zero, suc, ◌+◌, ◌*◌, ◌≤◌, ◌<◌, Bool, true, false, subst, arith}
-use Rattle.star_safety.proofs.Common.{Agrees, AllKnown, Effect, End, Ended, EndsTurn, GoesOn, Limited, Registers, State, Trapped, Traps, World, after, begin, follow, mul-le-mul_right, numbers_for, scans, turns, visited}
-use Rattle.star_safety.proofs.{Tally.Tallies, Tally.times, Tally.plus_all, Tally.times_all, TallyOrder.AtMost, TallyOrder.at_most_plus, TallyOrder.at_most_assoc, TallyOrder.at_most_turn, Tallied.tallied_more, Instructions.AreTallied, Instructions.IsGood}
+use Rattle.star_safety.proofs.{Common.{Agrees, AllKnown, Effect, End, Ended, EndsTurn, GoesOn, Limited, Registers, State, Trapped, Traps, World, after, begin, follow, mul-le-mul_right, numbers_for, scans, turns, visited}, Tally.{Tallies, times, plus_all, times_all}, TallyOrder.{AtMost, at_most_plus, at_most_assoc, at_most_turn}, Tallied.tallied_more, Instructions.{AreTallied, IsGood}}
 
 -- the run ends with no trap, within these sums and `v` visits
 abbrev pub Safe : Tallies → ℕ → End → Type 0
@@ -30,8 +29,7 @@ pub safe_follow : (w : World) (known : AllKnown) (y z : Tallies) (visits v at : 
     (next : Registers → State → End) → IsGood w known y visits e
     → ((g a : ℕ) → AtMost (y g a) (z g a)) → visits ≤ v
     → ((regs : Registers) (s : State) → Agrees w known regs → AreTallied y s → s.visits ≡ visits
-    → Safe z v (next regs s))
-    → Safe z v (follow at e next)
+    → Safe z v (next regs s)) → Safe z v (follow at e next)
 safe_follow w known y z visits v at (GoesOn regs s) next q p h go = go regs s q.0 q.1 q.2
 safe_follow w known y z visits v at (EndsTurn s) next q p h go =
     (all_tallied_more y z s p q.0, omega (arith, q.1))

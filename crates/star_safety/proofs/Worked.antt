@@ -1,9 +1,8 @@
 -- What is known of a result, what puts add up to, how many rows are visited and reported, what
 -- instructions say of themselves, and the words of reasons, of a few ranges and programs.
 use Rattle.std.proofs.Common.{ℤ, List, [], ◌∷◌, pos, refl}
-use Rattle.star_safety.proofs.Common.{CRegion, Code, Count, Cube, Each, Gives, Gives2, Gives3, GroupDecl, Keep, Lineorder, Op, Part, Parts, Plain, Range, Rollup, Shape, Stop, Supplier, Then, column_of, most_report_rows, plain, rows_of_grouping, rows_of_groupings, sample, sizes, turns_met, width}
+use Rattle.star_safety.proofs.{Common.{CRegion, Code, Count, Cube, Each, Gives, Gives2, Gives3, GroupDecl, Keep, Lineorder, Op, Part, Parts, Plain, Range, Rollup, Shape, Stop, Supplier, Then, column_of, most_report_rows, plain, rows_of_grouping, rows_of_groupings, sample, sizes, turns_met, width}, Words.{acts, const, over, put}}
 use Rattle.star_program.specs.declared.group.GroupKey.TheVariants as key
-use Rattle.star_safety.proofs.Words.{acts, const, over, put}
 
 abbrev from_to : ℤ → ℤ → Range
 from_to l h = record { low = l; high = h }
@@ -21,11 +20,10 @@ visits = refl
 
 -- 12; 12 + 3 + 4 + 1; and of the prefixes alone 12 + 3 + 1: not 12 + 4 + 1, which are the suffixes;
 -- of two updates 2; 2 + 2 + 2 + 1; 2 + 2 + 1; and of none
-shapes : Gives3 rows_of_groupings (
-    (Plain, 100, 3 ∷ 4 ∷ [], 12) ∷ (Cube, 100, 3 ∷ 4 ∷ [], 20) ∷ (Rollup, 100, 3 ∷ 4 ∷ [], 16)
-    ∷ (Plain, 2, 3 ∷ 4 ∷ [], 2) ∷ (Cube, 2, 3 ∷ 4 ∷ [], 7) ∷ (Rollup, 2, 3 ∷ 4 ∷ [], 5)
-    ∷ (Plain, 0, 3 ∷ 4 ∷ [], 0) ∷ (Cube, 0, 3 ∷ 4 ∷ [], 1) ∷ (Rollup, 0, 3 ∷ 4 ∷ [], 1)
-    ∷ (Plain, 0, [], 1) ∷ [])
+shapes : Gives3 rows_of_groupings ((Plain, 100, 3 ∷ 4 ∷ [], 12) ∷ (Cube, 100, 3 ∷ 4 ∷ [], 20)
+    ∷ (Rollup, 100, 3 ∷ 4 ∷ [], 16) ∷ (Plain, 2, 3 ∷ 4 ∷ [], 2) ∷ (Cube, 2, 3 ∷ 4 ∷ [], 7)
+    ∷ (Rollup, 2, 3 ∷ 4 ∷ [], 5) ∷ (Plain, 0, 3 ∷ 4 ∷ [], 0) ∷ (Cube, 0, 3 ∷ 4 ∷ [], 1)
+    ∷ (Rollup, 0, 3 ∷ 4 ∷ [], 1) ∷ (Plain, 0, [], 1) ∷ [])
 unfolding rows_of_grouping
 shapes = refl
 
@@ -47,7 +45,8 @@ two_scans shape = over (counted shape ∷ plain (Count ∷ []) ∷ [])
 -- puts 2 and 7 for each line, and 7 and 9 for each supplier
 abbrev two_numbers : Parts
 two_numbers =
-    over (record { shape = Cube; keys = key.Number ∷ key.Number ∷ []; aggregates = Count ∷ [] } ∷ [])
+    over (record { shape = Cube; keys = key.Number ∷ key.Number ∷ []; aggregates = Count ∷ [] }
+    ∷ [])
     (Each Lineorder 0 (just (const 1 (pos 2) ∷ const 2 (pos 7) ∷ put 0 (1 ∷ 2 ∷ []) [] ∷ []))
     (Each Supplier 3 (just (const 4 (pos 7) ∷ const 5 (pos 9) ∷ put 0 (4 ∷ 5 ∷ []) [] ∷ [])) Stop))
 

@@ -1,7 +1,6 @@
 -- What a moment asks of registers and of what comes next, and what it refuses, by computation.
 use Rattle.std.proofs.Common.{None, Some, [], ap, arith, false, pos, refl, true, ℕ, ℤ, ◌<◌, ◌^◌, ◌∷◌, ◌≡◌, ◌≤◌, w64, ◌↔◌}
-use Rattle.star_safety.proofs.Common.{AllKnown, AllNameI64, AreI64, CNation, CRegion, Code, Count, Date, Each, Effect, Ended, EndsTurn, EndsWithin, FitsAt, FitsSigned, FitsValue, Flag, Holds, IsAccepted, IsAdmissible, IsLoaded, IsMet, IsMoment, IsWithinLimits, Known, KnownFlag, KnownPlace, KnownRow, KnownText, Lineorder, LoQuantity, Moment, NamesI64, None, Number, Parts, Place, Registers, Row, State, Stop, Sum, SumsFit, Text, Then, TotalLies, World, act, after_scan, at_end, at_first, behind, behind_scan, column_of, empty_state, first_moment, in_scan, in_turn, itself, known_number, loaded_known, moment, no_registers, no_shares, only, picked, plain, pos, quote, sample, sum_of, with_entry}
-use Rattle.star_safety.proofs.Words.{acts, const, keep, over, put, read}
+use Rattle.star_safety.proofs.{Common.{AllKnown, AllNameI64, AreI64, CNation, CRegion, Code, Count, Date, Each, Effect, Ended, EndsTurn, EndsWithin, FitsAt, FitsSigned, FitsValue, Flag, Holds, IsAccepted, IsAdmissible, IsLoaded, IsMet, IsMoment, IsWithinLimits, Known, KnownFlag, KnownPlace, KnownRow, KnownText, Lineorder, LoQuantity, Moment, NamesI64, None, Number, Parts, Place, Registers, Row, State, Stop, Sum, SumsFit, Text, Then, TotalLies, World, act, after_scan, at_end, at_first, behind, behind_scan, column_of, empty_state, first_moment, in_scan, in_turn, itself, known_number, loaded_known, moment, no_registers, no_shares, only, picked, plain, pos, quote, sample, sum_of, with_entry}, Words.{acts, const, keep, over, put, read}}
 
 -- ---- a register
 
@@ -16,9 +15,9 @@ loaded : (z : ℤ) → FitsValue sample (loaded_known sample LoQuantity false) (
 unfolding column_of
 loaded z = refl
 
--- a row of the table itself, a code of the column, and one place more than there are codes: the
--- sample has five lines, and each of its columns one text; a place is no text, and a flag no number;
--- something stands exactly where something is known
+-- a row of the table itself, a code of the column, and one position more than there are codes: the
+-- sample has five lines, and each of its columns one text; a position is no text, and a flag no
+-- number; something stands exactly where something is known
 others : (n : ℕ)
     → (FitsValue sample (KnownRow Lineorder) (Row Date n) ≡ ((Lineorder ≡ Date) × (n < 5)))
     × (FitsValue sample (KnownText CRegion) (Text CNation n) ≡ ((CRegion ≡ CNation) × (n < 1)))
@@ -42,9 +41,8 @@ abbrev visits : ℕ → State
 visits n = record empty_state { visits = n }
 
 -- the second turn begins with its own row alone, and is counted
-second_turn : IsMet sample each_date
-    (moment (in_scan sample at_first Date 0) (acts (const 1 (pos 7) ∷ []) Stop) 2
-    (with_entry no_registers 0 (Row Date 1)) (visits 2))
+second_turn : IsMet sample each_date (moment (in_scan sample at_first Date 0)
+    (acts (const 1 (pos 7) ∷ []) Stop) 2 (with_entry no_registers 0 (Row Date 1)) (visits 2))
 second_turn =
     in_turn at_first Date 0 (acts (const 1 (pos 7) ∷ []) Stop) (acts (const 2 (pos 9) ∷ []) Stop) 1
     no_registers

@@ -1,10 +1,9 @@
 -- What refuses small programs, by computation: each kind of refusal, which of two comes first, and
 -- ranges: what multiplies, adds up, is read and is reached.
 use Rattle.std.proofs.Common.{◌*◌, ◌^◌, ℕ, List, [], ◌∷◌, Option, Some, None, pos, refl}
-use Rattle.star_safety.proofs.Common.{Aggregate, Ascending, BadShow, CRegion, Code, ColumnId, Count, Date, Each, Fault, Faulty, Gives2, Gives3, GroupDecl, Lineorder, LoExtendedprice, LoQuantity, LoRevenue, LoTax, Max, Min, Op, OpenGroup, Overflow, Parts, Plain, Range, Reached, Reason, Refusal, Refused, Stop, Sum, Supplier, TooCostly, World, WrittenTwice, column_of, first_answer, first_refusal, great_prices, is_i64, neg_ℤ, only, plain, reached, sample, ℤ}
+use Rattle.star_safety.proofs.{Common.{Aggregate, Ascending, BadShow, CRegion, Code, ColumnId, Count, Date, Each, Fault, Faulty, Gives2, Gives3, GroupDecl, Lineorder, LoExtendedprice, LoQuantity, LoRevenue, LoTax, Max, Min, Op, OpenGroup, Overflow, Parts, Plain, Range, Reached, Reason, Refusal, Refused, Stop, Sum, Supplier, TooCostly, World, WrittenTwice, column_of, first_answer, first_refusal, great_prices, is_i64, neg_ℤ, only, plain, reached, sample, ℤ}, Words.{const, low, load, add, mul, put, read, acts, over}}
 use Rattle.star_schema.specs.declared.group.GroupColumn.TheVariants as column
 use Rattle.star_program.specs.declared.group.GroupKey.TheVariants as key
-use Rattle.star_safety.proofs.Words.{const, low, load, add, mul, put, read, acts, over}
 
 -- instruction `n` is refused: for this reason, for what is wrong with it, and for a range that
 -- leaves 64 bits and what it is computed from

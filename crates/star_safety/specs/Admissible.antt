@@ -1,6 +1,5 @@
 -- Admissible programs, and the first refusal of any other.
-use Rattle.std.specs.Prelude.{◌≡◌, ℕ, nat_le, Bool, true, false, All, Option, Some, None}
-use Rattle.std.specs.{Option.option_map, Option.option_or}
+use Rattle.std.specs.{Prelude.{◌≡◌, ℕ, nat_le, Bool, true, false, All, Option, Some, None}, Option.{option_map, option_or}}
 use Rattle.star_common.specs.First.{first_answer}
 use Rattle.star_program.specs.{declared.program.Parts.Parts, World.World, ShowLines.shown_fault}
 use Rattle.star_safety.specs.{Quote.quote, Standing.instructions_of, Standing.reason_of, declared.reason.Reason.Reason}

@@ -3,11 +3,8 @@
 use Rattle.std.specs.Prelude.{ℕ, ◌*◌, pos, Bool, true, false, ◌||◌, nat_eq, List, [], ◌∷◌, ◌++◌, map, slice_index_or, Option, Some, None, if◌then◌else◌}
 use Rattle.star_schema.specs.declared.{table.TableId.TableId, group.Aggregate.Aggregate}
 use Rattle.star_interval.specs.Range.{only}
-use Rattle.star_program.specs.declared.{group.GroupDecl.GroupDecl, op.Op.Op, op.Op.TheVariants.Assign, op.Op.TheVariants.Put, op.Operation.Operation, program.Parts.Parts}
-use Rattle.star_program.specs.declared.op.Operation.TheVariants.{Const, Edge, Load, Find, Binary, Read}
-use Rattle.star_program.specs.{Code.Code, Code.Stop, Code.Then, Code.Each, World.World, World.is_text, Values.with_entry, Faults.group_at, Faults.target_of, Puts.aggregate_at, Puts.aligned}
-use Rattle.star_safety.specs.Ranges.{Known, KnownPlace, KnownRow, KnownFlag, AllKnown, range_at, reach_at, known_number, loaded_known, answer_known}
-use Rattle.star_safety.specs.Tallies.{Share, Shares, no_shares, read_range}
+use Rattle.star_program.specs.{declared.group.GroupDecl.GroupDecl, declared.op.Op.Op, declared.op.Op.TheVariants.{Assign, Put}, declared.op.Operation.Operation, declared.program.Parts.Parts, declared.op.Operation.TheVariants.{Const, Edge, Load, Find, Binary, Read}, Code.{Code, Stop, Then, Each}, World.{World, is_text}, Values.with_entry, Faults.{group_at, target_of}, Puts.{aggregate_at, aligned}}
+use Rattle.star_safety.specs.{Ranges.{Known, KnownPlace, KnownRow, KnownFlag, AllKnown, range_at, reach_at, known_number, loaded_known, answer_known}, Tallies.{Share, Shares, no_shares, read_range}}
 
 pub record Context : Type 0 where
   -- whether it is inside a scan
@@ -55,12 +52,12 @@ op_shares parts x _ h a = []
 
 -- the contribution of one put to a key
 abbrev pub key_share : Context → List ℕ → ℕ → Share
-key_share x ks place = known_share x.met (x.known (slice_index_or ks place 0))
+key_share x ks index = known_share x.met (x.known (slice_index_or ks index 0))
 
 -- the contribution of an instruction to each key: of a put one share, of any other none
 abbrev pub op_key_shares : Context → Op → Shares
-op_key_shares x (Put g ks vs) h place = if nat_eq h g then key_share x ks place ∷ [] else []
-op_key_shares x _ h place = []
+op_key_shares x (Put g ks vs) h index = if nat_eq h g then key_share x ks index ∷ [] else []
+op_key_shares x _ h index = []
 
 -- ---- after an instruction
 
@@ -97,7 +94,7 @@ after_op w parts x op = record x {
   known = learned x.known (target_of op) (result_known w parts x op);
   written = λ q. x.written q || is_target (target_of op) q;
   so_far = λ g a. op_shares parts x op g a ++ x.so_far g a;
-  keys_so_far = λ g place. op_key_shares x op g place ++ x.keys_so_far g place;
+  keys_so_far = λ g index. op_key_shares x op g index ++ x.keys_so_far g index;
 }
 
 -- ---- scans

@@ -2,8 +2,7 @@
 use Rattle.std.specs.Prelude.{◌≡◌, ℕ, ◌≤◌, ◌<◌, ℤ, Option, Some, None}
 use Rattle.star_schema.specs.{declared.column.ColumnId.ColumnId, Schema.table_of}
 use Rattle.star_interval.specs.Range.{Holds}
-use Rattle.star_program.specs.declared.value.Value.TheVariants.{Number, Text, Place, Row, Flag}
-use Rattle.star_program.specs.{World.World, Values.Registers, declared.value.Value.Value}
+use Rattle.star_program.specs.{declared.value.Value.TheVariants.{Number, Text, Place, Row, Flag}, World.World, Values.Registers, declared.value.Value.Value}
 use Rattle.star_safety.specs.Ranges.{Known, KnownNumber, KnownText, KnownPlace, KnownRow, KnownFlag, AllKnown}
 
 -- the column has the number in some row, if the number was loaded from a column

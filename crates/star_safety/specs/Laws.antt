@@ -25,15 +25,15 @@ TotalLies (Some r) (Some z) = Holds r z
 
 -- each aggregate of each group of updates lies in its range
 abbrev pub TotalsLie : World → Parts → State → Type 0
-TotalsLie w parts s = (g place : ℕ) (keys : List (Option KeyValue))
-    → TotalLies (aggregate_range (slice_index_or (group_at parts g).aggregates place Count)
-    (all_shares w parts g place))
-    (aggregate (slice_index_or (group_at parts g).aggregates place Count)
-    (numbers_for place (members key_value_cmp keys (s.updates_of g))))
+TotalsLie w parts s = (g index : ℕ) (keys : List (Option KeyValue))
+    → TotalLies (aggregate_range (slice_index_or (group_at parts g).aggregates index Count)
+    (all_shares w parts g index))
+    (aggregate (slice_index_or (group_at parts g).aggregates index Count)
+    (numbers_for index (members key_value_cmp keys (s.updates_of g))))
 
 -- the possible SUMs of all groups fit 128 bits, and the possible COUNTs 64
 pub record SumsFit (w : World) (parts : Parts) : Type 0 where
-  pub sums : (g place : ℕ) → place < length (group_at parts g).aggregates
-      → slice_index_or (group_at parts g).aggregates place Count ≡ Sum
-      → FitsI128 (sum_range (all_shares w parts g place))
-  pub counts : (g place : ℕ) → most_of (all_shares w parts g place) < 2 ^ 63
+  pub sums : (g index : ℕ) → index < length (group_at parts g).aggregates
+      → slice_index_or (group_at parts g).aggregates index Count ≡ Sum
+      → FitsI128 (sum_range (all_shares w parts g index))
+  pub counts : (g index : ℕ) → most_of (all_shares w parts g index) < 2 ^ 63

@@ -1,7 +1,6 @@
 -- The maximum number of rows of a program's report, known before a run (Gray et al. 1997, section
 -- 3: the groupings of CUBE and ROLLUP).
-use Rattle.std.specs.Prelude.{ℕ, suc, ◌*◌, ℤ, pos, negsuc, ◌-ℤ◌, nat_le, List, [], ◌∷◌, filter, Option, Some, None, if◌then◌else◌}
-use Rattle.std.specs.{List.list_all, List.sum_by, Option.is_none}
+use Rattle.std.specs.{Prelude.{ℕ, suc, ◌*◌, ℤ, pos, negsuc, ◌-ℤ◌, nat_le, List, [], ◌∷◌, filter, Option, Some, None, if◌then◌else◌}, List.{list_all, sum_by}, Option.is_none}
 use Rattle.star_schema.specs.{declared.group.Shape.Shape, Groups.is_grouping}
 use Rattle.star_interval.specs.Range.{Range}
 use Rattle.star_program.specs.{declared.group.GroupKey.GroupKey, declared.group.GroupKey.TheVariants.Number, declared.group.GroupKey.TheVariants.Text, declared.program.Parts.Parts, Faults.group_at, Puts.masks, World.World, World.is_text}
@@ -34,9 +33,9 @@ possible_values w shares Number = range_width (hull_of shares)
 
 -- the number of values of each key, from an index on
 abbrev pub each_values : World → (ℕ → List Share) → ℕ → List GroupKey → List ℕ
-each_values w shares place [] = []
-each_values w shares place (key ∷ keys) =
-    possible_values w (shares place) key ∷ each_values w shares (suc place) keys
+each_values w shares index [] = []
+each_values w shares index (key ∷ keys) =
+    possible_values w (shares index) key ∷ each_values w shares (suc index) keys
 
 -- ---- the rows of a grouping
 

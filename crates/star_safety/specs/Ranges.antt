@@ -1,6 +1,5 @@
 -- Register facts: the kind of a register, and the range of a number.
-use Rattle.std.specs.Prelude.{ℕ, ℤ, pos, ◌+ℤ◌, ◌-ℤ◌, ◌*ℤ◌, Bool, true, false, ◌||◌, Option, Some, None}
-use Rattle.std.specs.{Option.option_map}
+use Rattle.std.specs.{Prelude.{ℕ, ℤ, pos, ◌+ℤ◌, ◌-ℤ◌, ◌*ℤ◌, Bool, true, false, ◌||◌, Option, Some, None}, Option.option_map}
 use Rattle.star_schema.specs.{declared.table.TableId.TableId, declared.column.ColumnId.ColumnId}
 use Rattle.star_interval.specs.Range.{Range, only, corner_range}
 use Rattle.star_program.specs.{declared.op.Operator.Operator, declared.op.Operator.TheVariants.Add, declared.op.Operator.TheVariants.Sub, declared.op.Operator.TheVariants.Mul, declared.value.Kind.Kind, World.World, World.is_column, Faults.Kinds}

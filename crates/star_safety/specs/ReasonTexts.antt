@@ -2,8 +2,7 @@
 use Rattle.std.specs.Prelude.{◌++◌, ℕ, List, [], ◌∷◌, codes, decimal, flat_map}
 use Rattle.star_interval.specs.Range.{text_of}
 use Rattle.star_schema.specs.Schema.{column_name}
-use Rattle.star_program.specs.declared.fault.Fault.TheVariants.{BadRegister, WrittenTwice, Unset, WrongKind, BadColumn, BadGroup, Misplaced}
-use Rattle.star_program.specs.{declared.fault.Fault.Fault, TrapTexts.wrong_text}
+use Rattle.star_program.specs.{declared.fault.Fault.TheVariants.{BadRegister, WrittenTwice, Unset, WrongKind, BadColumn, BadGroup, Misplaced}, declared.fault.Fault.Fault, TrapTexts.wrong_text}
 use Rattle.star_safety.specs.{declared.reason.Reached.Reached, declared.reason.Reason.Reason, declared.reason.Reason.TheVariants.Faulty, declared.reason.Reason.TheVariants.NotAForeignKey, declared.reason.Reason.TheVariants.OpenGroup, declared.reason.Reason.TheVariants.Overflow}
 
 abbrev pub fault_number : Fault → ℕ

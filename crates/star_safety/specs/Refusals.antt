@@ -1,14 +1,10 @@
 -- The reason to refuse an instruction in its context (interval analysis: Moore, Interval Analysis,
 -- 1966).
-use Rattle.std.specs.Prelude.{ℕ, Bool, true, false, not, nat_lt, List, filter, map, Option, Some, None}
-use Rattle.std.specs.{Option.option_map, Option.option_or}
+use Rattle.std.specs.{Prelude.{ℕ, Bool, true, false, not, nat_lt, List, filter, map, Option, Some, None}, Option.{option_map, option_or}}
 use Rattle.star_schema.specs.{declared.table.TableId.TableId, declared.column.ColumnId.ColumnId, declared.column.TheConstants.COLUMNS, Schema.is_table, Schema.references}
 use Rattle.star_interval.specs.Range.{Range, fits_i64, only}
-use Rattle.star_program.specs.{declared.op.Op.Op, declared.op.Op.TheVariants.Assign, declared.op.Operation.TheVariants.Find, declared.op.Operation.TheVariants.Read, declared.program.Parts.Parts, declared.fault.Fault.Fault, declared.fault.Fault.TheVariants.BadRegister}
-use Rattle.star_program.specs.{declared.fault.Fault.TheVariants.WrittenTwice, World.World, Faults.unless, Faults.target_of, Faults.fault_of}
-use Rattle.star_safety.specs.Ranges.{Reach, Known, KnownNumber, origin_at, kinds_known}
-use Rattle.star_safety.specs.{Tallies.reach_of, Tallies.read_range, Contexts.Context, Contexts.aggregate_in_group, Contexts.result_known, declared.reason.Reached.Reached, declared.reason.Reason.Reason, declared.reason.Reason.TheVariants.Faulty}
-use Rattle.star_safety.specs.{declared.reason.Reason.TheVariants.NotAForeignKey, declared.reason.Reason.TheVariants.OpenGroup, declared.reason.Reason.TheVariants.Overflow}
+use Rattle.star_program.specs.{declared.op.Op.Op, declared.op.Op.TheVariants.Assign, declared.op.Operation.TheVariants.{Find, Read}, declared.program.Parts.Parts, declared.fault.Fault.Fault, declared.fault.Fault.TheVariants.{BadRegister, WrittenTwice}, World.World, Faults.{unless, target_of, fault_of}}
+use Rattle.star_safety.specs.{Ranges.{Reach, Known, KnownNumber, origin_at, kinds_known}, Tallies.{reach_of, read_range}, Contexts.{Context, aggregate_in_group, result_known}, declared.reason.Reached.Reached, declared.reason.Reason.Reason, declared.reason.Reason.TheVariants.{Faulty, NotAForeignKey, OpenGroup, Overflow}}
 
 abbrev pub refuses : Bool → Reason → Option Reason
 refuses true reason = Some reason

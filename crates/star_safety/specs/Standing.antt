@@ -1,12 +1,9 @@
 -- The instructions of a program by number, each in its context, with the reason to refuse it there;
 -- also the end of each body.
-use Rattle.std.specs.Prelude.{ℕ, ◌+◌, Bool, false, ◌&&◌, ◌||◌, nat_eq, nat_lt, List, [], ◌∷◌, ◌++◌, Option, Some, None}
-use Rattle.std.specs.{List.list_any}
+use Rattle.std.specs.{Prelude.{ℕ, ◌+◌, Bool, false, ◌&&◌, ◌||◌, nat_eq, nat_lt, List, [], ◌∷◌, ◌++◌, Option, Some, None}, List.list_any}
 use Rattle.star_schema.specs.declared.table.TableId.{TableId}
-use Rattle.star_program.specs.Code.{Code, Stop, Then, Each, code_size}
-use Rattle.star_program.specs.{declared.op.Op.Op, declared.op.Op.TheVariants.Put, declared.program.Parts.Parts, World.World}
-use Rattle.star_safety.specs.Contexts.{Context, at_first, after_op, in_scan, after_scan, at_end}
-use Rattle.star_safety.specs.{declared.reason.Reason.Reason, Refusals.op_reason, Refusals.scan_reason}
+use Rattle.star_program.specs.{Code.{Code, Stop, Then, Each, code_size}, declared.op.Op.Op, declared.op.Op.TheVariants.Put, declared.program.Parts.Parts, World.World}
+use Rattle.star_safety.specs.{Contexts.{Context, at_first, after_op, in_scan, after_scan, at_end}, declared.reason.Reason.Reason, Refusals.{op_reason, scan_reason}}
 
 pub data CodeItem : Type 0 where
   -- a scan of a table into a register
@@ -79,14 +76,14 @@ item_reason w parts pending x (Act op) = op_reason w parts pending x op
 item_reason w parts pending x (Scan table r) = scan_reason parts x r
 item_reason w parts pending x BodyEnd = None
 
-abbrev pub at_place : {A : Type 0} → ℕ → Option A → Option (ℕ × A)
-at_place at None = None
-at_place at (Some reason) = Some (at, reason)
+abbrev pub at_position : {A : Type 0} → ℕ → Option A → Option (ℕ × A)
+at_position at None = None
+at_position at (Some reason) = Some (at, reason)
 
 -- the reason to refuse it among all instructions, if there is one, with its number
 abbrev pub reason_among : World → Parts → List Standing → Standing → Option (ℕ × Reason)
 reason_among w parts all i =
-    at_place i.number (item_reason w parts (is_open all i) i.context i.item)
+    at_position i.number (item_reason w parts (is_open all i) i.context i.item)
 
 abbrev pub reason_of : World → Parts → Standing → Option (ℕ × Reason)
 reason_of w parts i = reason_among w parts (instructions_of w parts) i

@@ -1,10 +1,7 @@
 -- The context of an instruction from its enclosing scans and the instructions before it.
-use Rattle.std.specs.Prelude.{◌≡◌, ℕ, ◌+◌, ◌*◌, Bool, true, false, ◌&&◌, nat_lt, List, [], ◌∷◌, ◌++◌, length, filter, fold, Option, Some, None}
-use Rattle.std.specs.{List.last_or, List.list_all, List.list_any, Option.option_map}
+use Rattle.std.specs.{Prelude.{◌≡◌, ℕ, ◌+◌, ◌*◌, Bool, true, false, ◌&&◌, nat_lt, List, [], ◌∷◌, ◌++◌, length, filter, fold, Option, Some, None}, List.{last_or, list_all, list_any}, Option.option_map}
 use Rattle.star_program.specs.{declared.program.Parts.Parts, World.World, Faults.target_of}
-use Rattle.star_safety.specs.Contexts.{Context, op_shares, op_key_shares, result_known, is_target}
-use Rattle.star_safety.specs.Standing.{CodeItem, Scan, Act, BodyEnd, Enclosing, Standing, instructions_of, has_scan}
-use Rattle.star_safety.specs.{Ranges.Known, Ranges.KnownRow, Ranges.KnownFlag, Tallies.Shares, Tallies.no_shares}
+use Rattle.star_safety.specs.{Contexts.{Context, op_shares, op_key_shares, result_known, is_target}, Standing.{CodeItem, Scan, Act, BodyEnd, Enclosing, Standing, instructions_of, has_scan}, Ranges.{Known, KnownRow, KnownFlag}, Tallies.{Shares, no_shares}}
 
 -- ---- each instruction
 
@@ -47,8 +44,8 @@ item_key_shares x _ = no_shares
 
 -- the contributions of some instructions to a key of a group
 abbrev pub key_shares_together : List Standing → Shares
-key_shares_together is g place =
-    fold (λ so_far i. item_key_shares i.context i.item g place ++ so_far) [] is
+key_shares_together is g index =
+    fold (λ so_far i. item_key_shares i.context i.item g index ++ so_far) [] is
 
 -- the contributions of some instructions to an aggregate of a group
 abbrev pub shares_together : Parts → List Standing → Shares
@@ -96,9 +93,9 @@ pub record IsTold (w : World) (parts : Parts) (earlier : List Standing) (i : Sta
     pub written : (r : ℕ) → i.context.written r ≡ list_any (writes_to r) earlier
     pub known : (r : ℕ) → i.context.known r
         ≡ option_map (standing_result w parts) (last_writer i.round r earlier)
-    pub so_far : (g place : ℕ) → i.context.so_far g place ≡ shares_together parts earlier g place
-    pub keys_so_far : (g place : ℕ)
-        → i.context.keys_so_far g place ≡ key_shares_together earlier g place
+    pub so_far : (g index : ℕ) → i.context.so_far g index ≡ shares_together parts earlier g index
+    pub keys_so_far : (g index : ℕ)
+        → i.context.keys_so_far g index ≡ key_shares_together earlier g index
 
 -- this holds of each instruction, and of each end
 abbrev pub AreTold : World → Parts → Type 0

@@ -1,17 +1,12 @@
 //! Laws of accepted programs: functions with empty bodies, whose clauses are the laws.
 
-ghost use Rattle.std.specs.Prelude.{◌≡◌, ◌↔◌, ◌≤◌, ◌<◌, ◌^◌, ◌∷◌, ℕ, ℤ, All, List, None, Option, Some, length, true};
-ghost use Rattle.std.specs.{List.last_or, List.sum_by, Option.option_map};
+ghost use Rattle.std.specs.{Prelude.{◌≡◌, ◌↔◌, ◌≤◌, ◌<◌, ◌^◌, ◌∷◌, ℕ, ℤ, All, List, None, Option, Some, length, true}, List.{last_or, sum_by}, Option.option_map};
 ghost use Rattle.star_common.specs.First.{first_answer};
 ghost use Rattle.star_schema.specs.{declared.table.TableId.TableId, declared.column.ColumnId.ColumnId};
 ghost use Rattle.star_interval.specs.Range.{FitsI64, FitsI128, Range};
-ghost use Rattle.star_program.specs.{declared.op.Op.TheVariants.Put, declared.program.Parts.Parts, Code.Code, Code.Then, Effects.GoesOn, Effects.State, Effects.act, Effects.update_of, Faults.group_at, Faults.is_number_kind, Limits.IsWithinLimits, Outcome.IsOutcome};
-ghost use Rattle.star_program.specs.{declared.outcome.Outcome.Outcome, Reads.IsTaken, Run.EndsWith, Run.bounded_run_of, Run.meaning_of, Run.run_of, Values.Registers, World.World};
+ghost use Rattle.star_program.specs.{declared.op.Op.TheVariants.Put, declared.program.Parts.Parts, Code.{Code, Then}, Effects.{GoesOn, State, act, update_of}, Faults.{group_at, is_number_kind}, Limits.IsWithinLimits, Outcome.IsOutcome, declared.outcome.Outcome.Outcome, Reads.IsTaken, Run.{EndsWith, bounded_run_of, meaning_of, run_of}, Values.Registers, World.World};
 ghost use Rattle.star_group.specs.Stores.{HasRoom, group_declared};
-ghost use Rattle.star_safety.specs.Moments.{AtEveryMoment, HoldsFrom, IsMet, IsMetFrom, Moment, StandsIn, moment};
-ghost use Rattle.star_safety.specs.{Admissible.IsAdmissible, Admissible.Refused, Admissible.TooCostly, Admissible.first_refusal, Bounds.AreI64, Contexts.Context, Contexts.at_end, Contexts.at_first, Laws.EndsWithin, Laws.IsAccepted, Laws.SumsFit, Laws.TotalsLie, Meetings.IsMetWithinQuote};
-ghost use Rattle.star_safety.specs.{MostRows.most_report_rows, Quote.quote, Private.Forward.first_reason, Private.Forward.none_open, Private.Throughout.HoldsThroughout, declared.reason.Reached.Reached, declared.reason.Reason.TheVariants.Overflow, Ranges.Known, Ranges.KnownNumber};
-ghost use Rattle.star_safety.specs.{Ranges.Reach, Ranges.known_kind, Standing.instructions_of, Standing.reason_of, Tallies.Shares, Told.AreTold, Told.turns_of};
+ghost use Rattle.star_safety.specs.{Moments.{AtEveryMoment, HoldsFrom, IsMet, IsMetFrom, Moment, StandsIn, moment}, Admissible.{IsAdmissible, Refused, TooCostly, first_refusal}, Bounds.AreI64, Contexts.{Context, at_end, at_first}, Laws.{EndsWithin, IsAccepted, SumsFit, TotalsLie}, Meetings.IsMetWithinQuote, MostRows.most_report_rows, Quote.quote, Private.Forward.{first_reason, none_open}, Private.Throughout.HoldsThroughout, declared.reason.Reached.Reached, declared.reason.Reason.TheVariants.Overflow, Ranges.{Known, KnownNumber, Reach, known_kind}, Standing.{instructions_of, reason_of}, Tallies.Shares, Told.{AreTold, turns_of}};
 
 /// States that an admissible program runs to its end without a trap over any loaded catalogue.
 ///
@@ -36,9 +31,8 @@ pub fn admissible_programs_never_trap()
 /// States that at every moment the updates of a group, with the next put, satisfy the precondition
 /// of a store: the sums of each key list fit 128 bits, and the counts fit 64 bits.
 pub fn each_put_has_room()
-    ensures { (w : World) (parts : Parts) (all : Shares) (first : Moment) (x : Context)
-        (group : ℕ) (keys values : List ℕ) (rest : Code) (at : ℕ) (before after : Registers)
-        (s t : State)
+    ensures { (w : World) (parts : Parts) (all : Shares) (first : Moment) (x : Context) (group : ℕ)
+        (keys values : List ℕ) (rest : Code) (at : ℕ) (before after : Registers) (s t : State)
         → HoldsFrom w parts all first
         → IsMetFrom w parts first (moment x (Then (Put group keys values) rest) at before s)
         → act w parts x.inside before s (Put group keys values) ≡ GoesOn after t
@@ -73,13 +67,11 @@ pub fn instructions_are_met_within_the_quote()
 /// program's constants and the bounds of numeric columns do.
 pub fn told_bounds_fit_128_bits()
     ensures range { (w : World) (most : ℕ) (parts : Parts) (at : ℕ) (low high : ℤ)
-        (columns : List Reached)
-        → IsWithinLimits parts → most ≤ 10 ^ 15 → AreI64 w parts
+        (columns : List Reached) → IsWithinLimits parts → most ≤ 10 ^ 15 → AreI64 w parts
         → first_refusal w most parts ≡ Some (Refused (at, Overflow low high columns))
         → FitsI128 (record { low = low; high = high }) }
     ensures columns { (w : World) (most : ℕ) (parts : Parts) (at : ℕ) (low high : ℤ)
-        (columns : List Reached)
-        → AreI64 w parts
+        (columns : List Reached) → AreI64 w parts
         → first_refusal w most parts ≡ Some (Refused (at, Overflow low high columns))
         → All (λ column. FitsI64 (record { low = column.low; high = column.high })) columns }
     ensures visits { (w : World) (most : ℕ) (parts : Parts) (visits : ℕ)
@@ -127,8 +119,7 @@ pub fn instructions_are_judged_in_their_contexts()
 /// States that each moment of a run belongs to an instruction of its program or to the end of a
 /// body, with its number and in its context.
 pub fn moments_stand_in_their_contexts()
-    ensures { (w : World) (parts : Parts) (m : Moment)
-        → IsMet w parts m → StandsIn w parts m }
+    ensures { (w : World) (parts : Parts) (m : Moment) → IsMet w parts m → StandsIn w parts m }
 {}
 
 /// States that the facts of a register of kind Number have a range. The default of `range_at` is
@@ -152,6 +143,5 @@ fn what_holds_throughout_holds_at_every_moment()
     ensures moments { (w : World) (parts : Parts)
         → HoldsThroughout w parts → AtEveryMoment w parts }
     ensures whole { (w : World) (parts : Parts) → AtEveryMoment w parts
-        → EndsWith (meaning_of w (λ visits. true) parts) (λ s. Unit {0})
-        → HoldsThroughout w parts }
+        → EndsWith (meaning_of w (λ visits. true) parts) (λ s. Unit {0}) → HoldsThroughout w parts }
 {}

@@ -1,8 +1,5 @@
 -- Each column of texts has one dictionary.
-use Rattle.std.proofs.Common.{◌≡◌, ◌⊎◌, ◌↔◌, ℕ, ◌+◌, ◌≤◌, List, [], ◌∷◌, length, refl, sym, ap, ◌∙◌, arith, inl, inr, ⊎_elim, subst}
-use Rattle.std.specs.{List.AllByRecursion, List.Contains, List.Sorted.IsStrictlySortedBy, Ordering.match_ordering, Ordering.ordering_reverse}
-use Rattle.std.specs.declared.cmp.Ordering.{Ordering, TheVariants.Less, TheVariants.Equal, TheVariants.Greater}
-use Rattle.std.proofs.lemmas.{Cmp.nat_list_cmp_total, Cmp.tied_itself, Map.Lookups.exact_bytes}
+use Rattle.std.{proofs.Common.{◌≡◌, ◌⊎◌, ◌↔◌, ℕ, ◌+◌, ◌≤◌, List, [], ◌∷◌, length, refl, sym, ap, ◌∙◌, arith, inl, inr, ⊎_elim, subst}, specs.List.{AllByRecursion, Contains}, specs.List.Sorted.IsStrictlySortedBy, specs.Ordering.{match_ordering, ordering_reverse}, specs.declared.cmp.Ordering.Ordering, specs.declared.cmp.Ordering.TheVariants.{Less, Equal, Greater}, proofs.lemmas.Cmp.{nat_list_cmp_total, tied_itself}, proofs.lemmas.Map.Lookups.exact_bytes}
 use Rattle.star_common.proofs.Members.{at_each, contains_cases, contains_here, contains_later, contains_none, of_each}
 use Rattle.star_schema.specs.Dictionary.{text_cmp, with_text, dictionary_of, IsDictionary}
 

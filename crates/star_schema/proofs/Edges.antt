@@ -1,7 +1,5 @@
 -- The texts that stand before an edge of a text are the first ones of a dictionary.
-use Rattle.std.proofs.Common.{◌≡◌, ℕ, ◌<◌, Bool, true, false, List, get_or, refl, sym, ap, ◌∙◌, arith, ⊎_elim, true≢false}
-use Rattle.std.proofs.{lemmas.Bool.cases_eq, lemmas.Cmp.nat_list_cmp_total, lemmas.Cmp.alike_right, lemmas.Map.Keys.Less-from_sorted}
-use Rattle.std.specs.{List.Sorted.IsPartitionedBy, List.Sorted.IsStrictlySortedBy, declared.cmp.Ordering.Ordering, declared.cmp.Ordering.TheVariants.Less, declared.cmp.Ordering.TheVariants.Equal, declared.cmp.Ordering.TheVariants.Greater}
+use Rattle.std.{proofs.Common.{◌≡◌, ℕ, ◌<◌, Bool, true, false, List, get_or, refl, sym, ap, ◌∙◌, arith, ⊎_elim, true≢false}, proofs.lemmas.Bool.cases_eq, proofs.lemmas.Cmp.{nat_list_cmp_total, alike_right}, proofs.lemmas.Map.Keys.Less-from_sorted, specs.List.Sorted.{IsPartitionedBy, IsStrictlySortedBy}, specs.declared.cmp.Ordering.Ordering, specs.declared.cmp.Ordering.TheVariants.{Less, Equal, Greater}}
 use Rattle.star_schema.specs.Dictionary.{text_cmp}
 
 -- an edge of a text is told by which texts stand before it, by how they compare with it: each that

@@ -1,8 +1,5 @@
 -- The least and the greatest of some numbers.
-use Rattle.std.proofs.Common.{◌≡◌, ◌⊎◌, ℤ, pos, ◌≤ℤ◌, List, [], ◌∷◌, refl, arith, ⊎_elim}
-use Rattle.std.specs.{List.All, List.Contains, List.fold, Int.int_min, Int.int_max}
-use Rattle.std.proofs.lemmas.Int.{ints, fold-int_min_bounds, fold-int_max_bounds, fold-int_min_reached, fold-int_max_reached}
-use Rattle.std.proofs.lemmas.List.Elements.{All-cons, All-nil, All-contains}
+use Rattle.std.{proofs.Common.{◌≡◌, ◌⊎◌, ℤ, pos, ◌≤ℤ◌, List, [], ◌∷◌, refl, arith, ⊎_elim}, specs.List.{All, Contains, fold}, specs.Int.{int_min, int_max}, proofs.lemmas.Int.{ints, fold-int_min_bounds, fold-int_max_bounds, fold-int_min_reached, fold-int_max_reached}, proofs.lemmas.List.Elements.{All-cons, All-nil, All-contains}}
 use Rattle.star_common.proofs.Members.{contains_here, contains_later}
 use Rattle.star_schema.specs.Bounds.{least, greatest}
 

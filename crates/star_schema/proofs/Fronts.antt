@@ -1,7 +1,5 @@
 -- The front of a list that passes a test.
-use Rattle.std.proofs.Common.{◌≡◌, ℕ, suc, ◌+◌, ◌<◌, ◌≤◌, Bool, true, false, cond, List, [], ◌∷◌, length, get_or, count_by, refl, sym, ap, ◌∙◌, arith, nat_lt, ⊎_elim, true≢false}
-use Rattle.std.specs.List.{prefix_len, Sorted.IsPartitionedBy}
-use Rattle.std.proofs.lemmas.{Bool.cases_lt, List.Sums.sum_by-cons, List.Sums.prefix_len_passes, List.Sums.prefix_len_stops, List.Sums.prefix_len-le-length}
+use Rattle.std.{proofs.Common.{◌≡◌, ℕ, suc, ◌+◌, ◌<◌, ◌≤◌, Bool, true, false, cond, List, [], ◌∷◌, length, get_or, count_by, refl, sym, ap, ◌∙◌, arith, nat_lt, ⊎_elim, true≢false}, specs.List.prefix_len, specs.List.Sorted.IsPartitionedBy, proofs.lemmas.Bool.cases_lt, proofs.lemmas.List.Sums.{sum_by-cons, prefix_len_passes, prefix_len_stops, prefix_len-le-length}}
 
 -- where those that pass a test come first, they are the longest front that passes
 module _ {X : Type 0} (p : X → Bool) where
@@ -34,7 +32,7 @@ module _ {X : Type 0} (p : X → Bool) where
           (λ zero. omega (arith, zero)) (cases_lt 0 (prefix_len p xs)) in
           sum_by-cons (λ y. cond (p y) 1 0) x xs ∙ rw fails (omega (arith, ih, none))
 
-  -- a place is in that front where the element there passes
+  -- a position is in that front where the element there passes
   pub nat_lt-count_by : (xs : List X) (n : ℕ) (d : X) → IsPartitionedBy p xs → n < length xs
       → nat_lt n (count_by p xs) ≡ p (get_or xs n d)
   nat_lt-count_by xs n d parts h = rw (count_by-partitioned xs parts) (go (p (get_or xs n d)) refl)

@@ -1,6 +1,5 @@
 -- The groupings of a shape, and what some element of a list that passes a test is.
-use Rattle.std.proofs.Common.{◌≡◌, Bool, true, false, ◌&&◌, ◌||◌, List, [], ◌∷◌, ◌++◌, Option, Some, None, map, cond, ap, sym, refl, true≢false}
-use Rattle.std.specs.{List.filter, List.list_any, List.list_all, Option.is_none}
+use Rattle.std.{proofs.Common.{◌≡◌, Bool, true, false, ◌&&◌, ◌||◌, List, [], ◌∷◌, ◌++◌, Option, Some, None, map, cond, ap, sym, refl, true≢false}, specs.List.{filter, list_any, list_all}, specs.Option.is_none}
 use Rattle.star_schema.specs.{declared.group.Shape.Shape, declared.group.Shape.TheVariants.Plain, declared.group.Shape.TheVariants.Cube, declared.group.Shape.TheVariants.Rollup, Groups.IsMasked, Groups.is_grouping}
 
 -- of a rollup: where all keys are hidden, they are a grouping

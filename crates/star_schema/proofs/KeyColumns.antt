@@ -1,28 +1,22 @@
 -- The columns of keys, and those that refer to keys.
-use Rattle.std.specs.Prelude.{◌≡◌, Contains, Some, None, slice_get, refl}
-use Rattle.std.specs.{Option.option_map}
-use Rattle.std.proofs.{Common.ap, Common.◌∙◌, Common.lit≤, lemmas.Option.slice_get-map}
-use Rattle.star_schema.specs.declared.column.ColumnId.TheVariants.{LoCustkey, LoPartkey, LoSuppkey, LoOrderdate, LoCommitdate}
-use Rattle.star_schema.specs.Schema.{column_of, columns_of, key_of, kind_of, kinds_of, place_of, references, table_of}
-use Rattle.star_schema.specs.{declared.table.TableId.TableId, declared.table.TableId.TheVariants.Lineorder, declared.table.Key.TheVariants.One, declared.table.Key.TheVariants.Two, declared.column.Kind.Kind, declared.column.Kind.TheVariants.Number, declared.column.ColumnId.ColumnId}
-use Rattle.star_schema.specs.{Loadable.foreign_keys}
-use Rattle.star_schema.proofs.Places.{at_place}
+use Rattle.std.{specs.Prelude.{◌≡◌, Contains, Some, None, slice_get, refl}, specs.Option.option_map, proofs.Common.{ap, ◌∙◌, lit≤}, proofs.lemmas.Option.slice_get-map}
+use Rattle.star_schema.{specs.declared.column.ColumnId.TheVariants.{LoCustkey, LoPartkey, LoSuppkey, LoOrderdate, LoCommitdate}, specs.Schema.{column_of, columns_of, key_of, kind_of, kinds_of, position_of, references, table_of}, specs.declared.table.TableId.TableId, specs.declared.table.TableId.TheVariants.Lineorder, specs.declared.table.Key.TheVariants.{One, Two}, specs.declared.column.Kind.Kind, specs.declared.column.Kind.TheVariants.Number, specs.declared.column.ColumnId.ColumnId, specs.Loadable.foreign_keys, proofs.Indexes.at_position}
 
 -- a column of numbers of a table
 pub record IsNumberOf (t : TableId) (c : ColumnId) : Type 0 where
   pub table : table_of c ≡ t
   pub kind : kind_of c ≡ Number
 
--- the kind of a column stands at its place
-pub kind_at_place : (c : ColumnId) → slice_get (kinds_of (table_of c)) (place_of c)
+-- the kind of a column stands at its position
+pub kind_at_index : (c : ColumnId) → slice_get (kinds_of (table_of c)) (position_of c)
     ≡ Some (kind_of c)
-kind_at_place c =
-    slice_get-map kind_of (columns_of (table_of c)) (place_of c)
-    ∙ ap (option_map kind_of) (at_place c)
+kind_at_index c =
+    slice_get-map kind_of (columns_of (table_of c)) (position_of c)
+    ∙ ap (option_map kind_of) (at_position c)
 
-pub number_at_place : (t : TableId) (c : ColumnId) → IsNumberOf t c
-    → slice_get (kinds_of t) (place_of c) ≡ Some Number
-number_at_place t c h = rw (← h.table) (kind_at_place c ∙ ap (λ (k : Kind). Some k) h.kind)
+pub number_at_index : (t : TableId) (c : ColumnId) → IsNumberOf t c
+    → slice_get (kinds_of t) (position_of c) ≡ Some Number
+number_at_index t c h = rw (← h.table) (kind_at_index c ∙ ap (λ (k : Kind). Some k) h.kind)
 
 key_columns_are : (t : TableId)
     → elim (key_of t) as (λ _. Type 0)

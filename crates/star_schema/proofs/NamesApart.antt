@@ -1,9 +1,6 @@
 -- No two tables have one name, and no two columns; what is found by a name has it.
-use Rattle.std.specs.Prelude.{◌≡◌, ◌↔◌, ℕ, Bool, true, false, List, [], ◌∷◌, Option, Some, find, nat_eq, refl}
-use Rattle.std.proofs.Common.{◌∙◌, subst, sym}
-use Rattle.std.specs.Cmp.Lexicographic.{pointwise, same_text}
-use Rattle.star_schema.specs.declared.{table.TableId.TableId, table.TableId.TheVariants.Date, table.TheConstants.TABLES, column.ColumnId.ColumnId, column.ColumnId.TheVariants.DDatekey, column.TheConstants.COLUMNS}
-use Rattle.star_schema.specs.{Schema.column_name, Schema.column_of, Schema.table_name, Words.named}
+use Rattle.std.{specs.Prelude.{◌≡◌, ◌↔◌, ℕ, Bool, true, false, List, [], ◌∷◌, Option, Some, find, nat_eq, refl}, proofs.Common.{◌∙◌, subst, sym}, specs.Cmp.Lexicographic.{pointwise, same_text}}
+use Rattle.star_schema.specs.{declared.table.TableId.TableId, declared.table.TableId.TheVariants.Date, declared.table.TheConstants.TABLES, declared.column.ColumnId.ColumnId, declared.column.ColumnId.TheVariants.DDatekey, declared.column.TheConstants.COLUMNS, Schema.{column_name, column_of, table_name}, Words.named}
 
 pub table_by_name : (t : TableId) → named table_name TABLES (table_name t) ≡ Some t
 unfolding table_name
@@ -22,8 +19,7 @@ found_named name_of name [] x e = cc
 found_named name_of name (y ∷ ys) x e =
     go (pointwise nat_eq (name_of y) name) refl e (found_named name_of name ys x)
   where
-    go : (b : Bool) → pointwise nat_eq (name_of y) name ≡ b
-        → named name_of (y ∷ ys) name ≡ Some x
+    go : (b : Bool) → pointwise nat_eq (name_of y) name ≡ b → named name_of (y ∷ ys) name ≡ Some x
         → (named name_of ys name ≡ Some x → name_of x ≡ name) → name_of x ≡ name
     go true same e later = let here : y ≡ x =
         cc (rw same at e) in rw (← here) (same_text (name_of y) name (sym same))

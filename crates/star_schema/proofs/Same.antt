@@ -1,8 +1,6 @@
 -- Tables and columns that the tests find to be one.
-use Rattle.std.specs.Prelude.{◌≡◌, ◌<◌, true, nat_eq, Some, slice_get, refl}
-use Rattle.std.proofs.{Common.ap, Common.sym, Common.◌∙◌, lemmas.Bool.Decides.Decides-eqb, lemmas.Option.same_Some, lemmas.Option.slice_get_within}
-use Rattle.star_schema.specs.declared.table.TableId.TheVariants.{Date, Customer, Supplier, Part, Lineorder}
-use Rattle.star_schema.specs.{declared.table.TableId.TableId, declared.column.ColumnId.ColumnId, declared.column.ColumnId.TheVariants.DDatekey, declared.column.TheConstants.COLUMNS, Schema.index_of, Schema.is_table}
+use Rattle.std.{specs.Prelude.{◌≡◌, ◌<◌, true, nat_eq, Some, slice_get, refl}, proofs.Common.{ap, sym, ◌∙◌}, proofs.lemmas.Bool.Decides.Decides-eqb, proofs.lemmas.Option.{same_Some, slice_get_within}}
+use Rattle.star_schema.specs.{declared.table.TableId.TheVariants.{Date, Customer, Supplier, Part, Lineorder}, declared.table.TableId.TableId, declared.column.ColumnId.ColumnId, declared.column.ColumnId.TheVariants.DDatekey, declared.column.TheConstants.COLUMNS, Schema.{index_of, is_table}}
 
 pub table_same : (s t : TableId) → is_table s t ≡ true → s ≡ t
 table_same Date Date e = refl

@@ -1,19 +1,15 @@
 -- Records, cells, rows, dictionaries and bounds of small texts, at the ends of what is allowed and
 -- one past them.
-use Rattle.std.proofs.Common.{◌≡◌, ◌≤◌, ℕ, true, false, List, [], ◌∷◌, Some, None, pos, negsuc, refl, arith}
-use Rattle.std.specs.Prelude.{◌++◌, codes, replicate}
-use Rattle.std.proofs.lemmas.List.Elements.{All-from_recursion, recursion_from_All}
+use Rattle.std.{proofs.Common.{◌≡◌, ◌≤◌, ℕ, true, false, List, [], ◌∷◌, Some, None, pos, negsuc, refl, arith}, specs.Prelude.{◌++◌, codes, replicate}, proofs.lemmas.List.Elements.{All-from_recursion, recursion_from_All}}
 use Rattle.star_common.proofs.Tables.{Gives, Gives2}
 use Rattle.star_schema.specs.declared.column.Kind.TheVariants as kind
-use Rattle.star_schema.specs.declared.{column.ColumnId.TheVariants.CName, table.TableId.TheVariants.Customer}
-use Rattle.star_schema.specs.{Bounds.greatest, Bounds.least, Bounds.number_in, Dictionary.codes_of, Dictionary.dictionary_of, Dictionary.high_in, Dictionary.low_in, Most.most_rows, Most.most_visits, Records.fields_of, Records.pieces, Records.records_in, Records.records_of, Schema.column_of, Schema.columns_of, Schema.place_of, Texts.text_in, Texts.texts_at, Texts.texts_of}
-use Rattle.star_schema.specs.Tables.{IsRecordOf, IsRowOf, IsTable, Number, Text, Value, are_cells, cells_of, is_cell, number_of, row_of, rows_of, value_at, values_of}
+use Rattle.star_schema.specs.{declared.column.ColumnId.TheVariants.CName, declared.table.TableId.TheVariants.Customer, Bounds.{greatest, least, number_in}, Dictionary.{codes_of, dictionary_of, high_in, low_in}, Most.{most_rows, most_visits}, Records.{fields_of, pieces, records_in, records_of}, Schema.{column_of, columns_of, position_of}, Texts.{text_in, texts_at, texts_of}, Tables.{IsRecordOf, IsRowOf, IsTable, Number, Text, Value, are_cells, cells_of, is_cell, number_of, row_of, rows_of, value_at, values_of}}
 
 limits : (most_rows ≡ 1000000000) × (most_visits ≡ 1000000000000000)
 limits = (refl, refl)
 
--- a carriage return and a line feed end lines, the bytes after them don't, and empty lines are none;
--- a field is what lies between bars, also where nothing does
+-- a carriage return and a line feed end lines, the bytes after them don't, and empty lines are
+-- none; a field is what lies between bars, also where nothing does
 records_and_fields :
     (records_of (97 ∷ 13 ∷ 10 ∷ 98 ∷ 14 ∷ 11 ∷ 10 ∷ 10 ∷ 99 ∷ [])
     ≡ (97 ∷ []) ∷ (98 ∷ 14 ∷ 11 ∷ []) ∷ (99 ∷ []) ∷ [])
@@ -96,7 +92,7 @@ cut_by_a_part h = let e : false ≡ true =
     (recursion_from_All (IsRecordOf Customer) (codes "7|n|a|c" ∷ codes "|u|r|p|m|" ∷ []) h.1).0 in
     absurd (cc)
 
--- the value at a row and a place, and what is read from it
+-- the value at a row and a position, and what is read from it
 values_there :
     (value_at (row 7 ∷ row 8 ∷ []) 1 2 ≡ Some (Text (codes "a")))
     × (value_at (row 7 ∷ row 8 ∷ []) 2 0 ≡ None) × (value_at (row 7 ∷ []) 0 8 ≡ None)
@@ -104,7 +100,7 @@ values_there :
     ((Some (Number (pos 3)), pos 3) ∷ (Some (Text (codes "3")), pos 0) ∷ (None, pos 0) ∷ [])
     × Gives text_in ((Some (Text (codes "3")), codes "3") ∷ (Some (Number (pos 3)), []) ∷ [])
     × (texts_of CName (row 7 ∷ []) ≡ codes "n" ∷ [])
-unfolding column_of place_of texts_at
+unfolding column_of position_of texts_at
 values_there = (refl, refl, refl, refl, refl, refl)
 
 bounds : Gives least ((pos 2 ∷ negsuc 0 ∷ pos 5 ∷ [], negsuc 0) ∷ ([], pos 0) ∷ [])

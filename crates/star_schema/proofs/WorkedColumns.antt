@@ -1,9 +1,6 @@
 -- The columns of each table, in order, and which of them hold numbers, as lines with bars.
-use Rattle.std.proofs.Common.{◌≡◌, ℕ, Bool, true, false, List, [], ◌∷◌, refl}
-use Rattle.std.specs.Prelude.{codes, filter, map}
-use Rattle.star_schema.specs.declared.table.TableId.TheVariants.{Customer, Date, Lineorder, Part, Supplier}
-use Rattle.star_schema.specs.Schema.{column_name, column_of, columns_of, kind_of, table_name}
-use Rattle.star_schema.specs.{declared.column.Kind.Kind, declared.column.TheConstants.COLUMNS, declared.table.TableId.TableId, Records.fields_of, Records.pieces}
+use Rattle.std.{proofs.Common.{◌≡◌, ℕ, Bool, true, false, List, [], ◌∷◌, refl}, specs.Prelude.{codes, filter, map}}
+use Rattle.star_schema.specs.{declared.table.TableId.TheVariants.{Customer, Date, Lineorder, Part, Supplier}, Schema.{column_name, column_of, columns_of, kind_of, table_name}, declared.column.Kind.Kind, declared.column.TheConstants.COLUMNS, declared.table.TableId.TableId, Records.{fields_of, pieces}}
 use Rattle.star_schema.specs.declared.column.Kind.TheVariants as kind
 
 abbrev holds_numbers : Kind → Bool

@@ -1,16 +1,8 @@
 -- Which keys show a row, which rows a group has, what its aggregates are, how values and rows of
 -- groups compare; and the tables' keys.
-use Rattle.std.proofs.Common.{◌≡◌, ℤ, Bool, true, false, List, [], ◌∷◌, Option, Some, None, inl, inr, pos, negsuc, refl, arith}
-use Rattle.std.specs.{Prelude.Contains, Prelude.codes, Prelude.map, List.Sorted.IsStrictlySortedBy, Ordering.int_cmp}
-use Rattle.std.specs.declared.cmp.Ordering.TheVariants.{Less, Equal, Greater}
+use Rattle.std.{proofs.Common.{◌≡◌, ℤ, Bool, true, false, List, [], ◌∷◌, Option, Some, None, inl, inr, pos, negsuc, refl, arith}, specs.Prelude.{Contains, codes, map}, specs.List.Sorted.IsStrictlySortedBy, specs.Ordering.int_cmp, specs.declared.cmp.Ordering.TheVariants.{Less, Equal, Greater}}
 use Rattle.star_common.proofs.Tables.{Gives, Gives2}
-use Rattle.star_schema.specs.declared.column.ColumnId.TheVariants.{CCustkey, CName, DDatekey, LoCommitdate, LoCustkey, LoLinenumber, LoOrderdate, LoOrderkey, LoPartkey, LoSuppkey, LoTax, PPartkey, SSuppkey}
-use Rattle.star_schema.specs.declared.{group.Aggregate.TheVariants.Sum, group.Aggregate.TheVariants.Count, group.Aggregate.TheVariants.Min, group.Aggregate.TheVariants.Max, group.Direction.TheVariants.Ascending, group.Direction.TheVariants.Descending, group.GroupColumn.TheVariants.Key, group.GroupColumn.TheVariants.Aggregate, group.Shape.Shape, group.Shape.TheVariants.Plain, group.Shape.TheVariants.Cube, group.Shape.TheVariants.Rollup, table.Key.TheVariants.One, table.Key.TheVariants.Two, sizes.Sizes.Sizes}
-use Rattle.star_schema.specs.declared.table.TableId.TheVariants.{Customer, Date, Lineorder, Part, Supplier}
-use Rattle.star_schema.specs.{Database.Database, Database.rows_in, Loadable.foreign_keys, Loadable.key_numbers, Sizes.size_of, Tables.Number, Tables.Text, Tables.Value}
-use Rattle.star_schema.specs.Groups.{AreGroups, Entry, GroupRow, IsGroup, IsMasked, aggregate, belongs, is_grouping, members, totals_of}
-use Rattle.star_schema.specs.Order.{AreInOrder, column_cmp, key_cmp, row_cmp, value_cmp}
-use Rattle.star_schema.specs.Schema.{columns_of, column_of, key_of, place_of, references, width_of}
+use Rattle.star_schema.specs.{declared.column.ColumnId.TheVariants.{CCustkey, CName, DDatekey, LoCommitdate, LoCustkey, LoLinenumber, LoOrderdate, LoOrderkey, LoPartkey, LoSuppkey, LoTax, PPartkey, SSuppkey}, declared.group.Aggregate.TheVariants.{Sum, Count, Min, Max}, declared.group.Direction.TheVariants.{Ascending, Descending}, declared.group.GroupColumn.TheVariants.{Key, Aggregate}, declared.group.Shape.Shape, declared.group.Shape.TheVariants.{Plain, Cube, Rollup}, declared.table.Key.TheVariants.{One, Two}, declared.sizes.Sizes.Sizes, declared.table.TableId.TheVariants.{Customer, Date, Lineorder, Part, Supplier}, Database.{Database, rows_in}, Loadable.{foreign_keys, key_numbers}, Sizes.size_of, Tables.{Number, Text, Value}, Groups.{AreGroups, Entry, GroupRow, IsGroup, IsMasked, aggregate, belongs, is_grouping, members, totals_of}, Order.{AreInOrder, column_cmp, key_cmp, row_cmp, value_cmp}, Schema.{columns_of, column_of, key_of, position_of, references, width_of}}
 
 -- ---- keys of groups
 
@@ -21,11 +13,9 @@ shown s = map (is_grouping s)
     ∷ (None ∷ Some (pos 2) ∷ []) ∷ (None ∷ None ∷ []) ∷ []
     ∷ (Some (pos 1) ∷ None ∷ None ∷ Some (pos 2) ∷ []) ∷ [])
 
-groupings : Gives shown (
-    (Plain, true ∷ false ∷ false ∷ false ∷ true ∷ false ∷ [])
+groupings : Gives shown ((Plain, true ∷ false ∷ false ∷ false ∷ true ∷ false ∷ [])
     ∷ (Cube, true ∷ true ∷ true ∷ true ∷ true ∷ true ∷ [])
-    ∷ (Rollup, true ∷ true ∷ false ∷ true ∷ true ∷ false ∷ [])
-    ∷ [])
+    ∷ (Rollup, true ∷ true ∷ false ∷ true ∷ true ∷ false ∷ []) ∷ [])
 groupings = refl
 
 masks : (IsMasked (Some (pos 3) ∷ Some (pos 4) ∷ []) (pos 1 ∷ pos 2 ∷ [])
@@ -68,24 +58,21 @@ all_is_there groups h = h.all (None ∷ []) (refl, inr refl)
 
 -- ---- the rows of a group, and what its aggregates are
 
-of_keys : Gives (λ keys. belongs int_cmp keys (pos 1 ∷ pos 2 ∷ [])) (
-    (None ∷ None ∷ [], true)
-    ∷ (Some (pos 1) ∷ None ∷ [], true)
-    ∷ (None ∷ Some (pos 2) ∷ [], true)
-    ∷ (Some (pos 2) ∷ None ∷ [], false)
-    ∷ (Some (pos 1) ∷ Some (pos 3) ∷ [], false)
-    ∷ (None ∷ [], false)
-    ∷ [])
+of_keys : Gives (λ keys. belongs int_cmp keys (pos 1 ∷ pos 2 ∷ []))
+    ((None ∷ None ∷ [], true) ∷ (Some (pos 1) ∷ None ∷ [], true) ∷ (None ∷ Some (pos 2) ∷ [], true)
+    ∷ (Some (pos 2) ∷ None ∷ [], false) ∷ (Some (pos 1) ∷ Some (pos 3) ∷ [], false)
+    ∷ (None ∷ [], false) ∷ [])
 of_keys = refl
 
 aggregates : Gives (λ g. aggregate g (pos 2 ∷ negsuc 4 ∷ pos 3 ∷ pos 3 ∷ []))
-    ((Count, Some (pos 4)) ∷ (Sum, Some (pos 3)) ∷ (Min, Some (negsuc 4)) ∷ (Max, Some (pos 3)) ∷ [])
+    ((Count, Some (pos 4)) ∷ (Sum, Some (pos 3)) ∷ (Min, Some (negsuc 4)) ∷ (Max, Some (pos 3))
+    ∷ [])
 aggregates = refl
 
 abbrev values : List ℤ → Entry ℤ
 values zs = record { keys = []; values = zs }
 
--- an aggregate for each place; a number that isn't there is 0
+-- an aggregate for each position; a number that isn't there is 0
 totals : Gives2 totals_of ((
   Sum ∷ Max ∷ Min ∷ [],
   values (pos 1 ∷ pos 5 ∷ pos 9 ∷ []) ∷ values (pos 2 ∷ pos 4 ∷ []) ∷ [],
@@ -114,19 +101,16 @@ values_compare : Gives2 value_cmp (
     ∷ [])
 values_compare = refl
 
-keys_compare : Gives2 (key_cmp int_cmp) (
-    (Some (pos 3), Some (pos 2), Greater)
-    ∷ (Some (pos 3), Some (pos 3), Equal)
-    ∷ (None, None, Equal)
-    ∷ [])
+keys_compare : Gives2 (key_cmp int_cmp)
+    ((Some (pos 3), Some (pos 2), Greater) ∷ (Some (pos 3), Some (pos 3), Equal)
+    ∷ (None, None, Equal) ∷ [])
 keys_compare = refl
 
 abbrev two : Option ℤ → Option ℤ → GroupRow ℤ
 two a b = record { keys = a ∷ b ∷ []; totals = Some (pos 7) ∷ Some (pos 1) ∷ [] }
 
-in_order : AreInOrder int_cmp []
-    (two (Some (pos 1)) (Some (pos 2)) ∷ two (Some (pos 1)) None ∷ two None (Some (pos 2))
-    ∷ two None None ∷ [])
+in_order : AreInOrder int_cmp [] (two (Some (pos 1)) (Some (pos 2)) ∷ two (Some (pos 1)) None
+    ∷ two None (Some (pos 2)) ∷ two None None ∷ [])
 unfolding IsStrictlySortedBy
 in_order = ((refl, (refl, (refl, tt))), ((refl, (refl, tt)), ((refl, tt), (tt, tt))))
 
@@ -162,17 +146,14 @@ sizes : (s : Sizes) → Gives (size_of s) (
 sizes s = refl
 
 -- the numbers of lineorder's pair of keys come in order
-columns : Gives width_of
-    ((Date, 17) ∷ (Customer, 8) ∷ (Supplier, 7) ∷ (Part, 9) ∷ (Lineorder, 17) ∷ [])
-    × Gives key_of (
-    (Date, One DDatekey) ∷ (Customer, One CCustkey) ∷ (Supplier, One SSuppkey)
-    ∷ (Part, One PPartkey) ∷ (Lineorder, Two LoOrderkey LoLinenumber) ∷ [])
-    × Gives place_of ((DDatekey, 0) ∷ (CCustkey, 0) ∷ (CName, 1) ∷ (LoTax, 14) ∷ [])
+columns : Gives width_of ((Date, 17) ∷ (Customer, 8) ∷ (Supplier, 7) ∷ (Part, 9) ∷ (Lineorder, 17)
+    ∷ []) × Gives key_of ((Date, One DDatekey) ∷ (Customer, One CCustkey)
+    ∷ (Supplier, One SSuppkey) ∷ (Part, One PPartkey) ∷ (Lineorder, Two LoOrderkey LoLinenumber)
+    ∷ []) × Gives position_of ((DDatekey, 0) ∷ (CCustkey, 0) ∷ (CName, 1) ∷ (LoTax, 14) ∷ [])
     × (foreign_keys ≡ LoCustkey ∷ LoPartkey ∷ LoSuppkey ∷ LoOrderdate ∷ LoCommitdate ∷ [])
-    × Gives references (
-    (LoCustkey, Some Customer) ∷ (LoPartkey, Some Part) ∷ (LoSuppkey, Some Supplier)
-    ∷ (LoOrderdate, Some Date) ∷ (LoCommitdate, Some Date) ∷ [])
+    × Gives references ((LoCustkey, Some Customer) ∷ (LoPartkey, Some Part)
+    ∷ (LoSuppkey, Some Supplier) ∷ (LoOrderdate, Some Date) ∷ (LoCommitdate, Some Date) ∷ [])
     × (key_numbers (key_of Lineorder) (Number (pos 7) ∷ Number (pos 2) ∷ Number (pos 5) ∷ [])
     ≡ pos 7 ∷ pos 2 ∷ [])
-unfolding foreign_keys place_of columns_of column_of
+unfolding foreign_keys position_of columns_of column_of
 columns = (refl, refl, refl, refl, refl, refl)

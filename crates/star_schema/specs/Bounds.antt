@@ -1,7 +1,6 @@
 -- The bounds of a column of numbers (this project's profile).
-use Rattle.std.specs.Prelude.{ℕ, ℤ, List, [], ◌∷◌, Option, Some, fold, map, pos, slice_get}
-use Rattle.std.specs.{Int.int_max, Int.int_min}
-use Rattle.star_schema.specs.{declared.column.ColumnId.ColumnId, Schema.place_of, Tables.Value, Tables.Number}
+use Rattle.std.specs.{Prelude.{ℕ, ℤ, List, [], ◌∷◌, Option, Some, fold, map, pos, slice_get}, Int.{int_max, int_min}}
+use Rattle.star_schema.specs.{declared.column.ColumnId.ColumnId, Schema.position_of, Tables.Value, Tables.Number}
 
 -- the least of some numbers, 0 if there are none
 unfoldable pub least : List ℤ → ℤ
@@ -19,8 +18,8 @@ number_in _ = pos 0
 
 -- the numbers at a position of some rows, in order
 unfoldable pub numbers_at : ℕ → List (List Value) → List ℤ
-numbers_at place rows = map (λ row. number_in (slice_get row place)) rows
+numbers_at index rows = map (λ row. number_in (slice_get row index)) rows
 
 -- the numbers of a numeric column, in the order of its table's rows
 abbrev pub numbers_of : ColumnId → List (List Value) → List ℤ
-numbers_of c rows = numbers_at (place_of c) rows
+numbers_of c rows = numbers_at (position_of c) rows

@@ -1,8 +1,7 @@
 -- The values of a column over the rows of five tables, and the bounds of numeric columns.
 use Rattle.std.specs.Prelude.{◌≡◌, ℕ, ℤ, List}
 use Rattle.star_interval.specs.Range.{FitsI64, Range}
-use Rattle.star_schema.specs.declared.{column.ColumnId.ColumnId, column.Kind.TheVariants.Number, table.TableId.TableId}
-use Rattle.star_schema.specs.{Bounds.greatest, Bounds.least, Bounds.numbers_of, Database.Database, Database.rows_in, Dictionary.dictionary_of, Schema.kind_of, Schema.table_of, Tables.Value, Texts.texts_of}
+use Rattle.star_schema.specs.{declared.column.ColumnId.ColumnId, declared.column.Kind.TheVariants.Number, declared.table.TableId.TableId, Bounds.{greatest, least, numbers_of}, Database.{Database, rows_in}, Dictionary.dictionary_of, Schema.{kind_of, table_of}, Tables.Value, Texts.texts_of}
 
 -- the numbers of a numeric column
 abbrev pub column_numbers : Database → ColumnId → List ℤ

@@ -1,6 +1,5 @@
 -- The order of texts, and the dictionary of a text column (this project's profile).
-use Rattle.std.specs.Prelude.{◌≡◌, ◌↔◌, ℕ, ℤ, List, [], ◌∷◌, Contains, Some, count_by, map, pos, slice_get}
-use Rattle.std.specs.{Cmp.Lexicographic.slice_cmp, List.Sorted.IsStrictlySortedBy, Ordering.is_lt, Ordering.is_le, Ordering.match_ordering, Ordering.nat_cmp, declared.cmp.Ordering.Ordering}
+use Rattle.std.specs.{Prelude.{◌≡◌, ◌↔◌, ℕ, ℤ, List, [], ◌∷◌, Contains, Some, count_by, map, pos, slice_get}, Cmp.Lexicographic.slice_cmp, List.Sorted.IsStrictlySortedBy, Ordering.{is_lt, is_le, match_ordering, nat_cmp}, declared.cmp.Ordering.Ordering}
 
 -- texts compare by bytes; a proper prefix is less
 abbrev pub text_cmp : List ℕ → List ℕ → Ordering

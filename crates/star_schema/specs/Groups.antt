@@ -1,7 +1,5 @@
 -- Groups of rows and their aggregates, over any kind of keys (Gray et al. 1997, sections 3 and 4).
-use Rattle.std.specs.Prelude.{◌≡◌, ◌⊎◌, ℕ, ◌+◌, ℤ, pos, ◌+ℤ◌, IsTrue, Bool, true, false, ◌&&◌, List, [], ◌∷◌, Contains, length, map, filter, replicate, slice_index_or, Option, Some, None}
-use Rattle.std.specs.{Int.int_min, Int.int_max, List.list_all, Option.is_none, Option.is_some, Ordering.is_eq}
-use Rattle.std.specs.declared.cmp.Ordering.{Ordering}
+use Rattle.std.specs.{Prelude.{◌≡◌, ◌⊎◌, ℕ, ◌+◌, ℤ, pos, ◌+ℤ◌, IsTrue, Bool, true, false, ◌&&◌, List, [], ◌∷◌, Contains, length, map, filter, replicate, slice_index_or, Option, Some, None}, Int.{int_min, int_max}, List.list_all, Option.{is_none, is_some}, Ordering.is_eq, declared.cmp.Ordering.Ordering}
 use Rattle.star_schema.specs.declared.group.{Shape.Shape, Shape.TheVariants.Plain, Shape.TheVariants.Cube, Shape.TheVariants.Rollup, Aggregate.Aggregate, Aggregate.TheVariants.Sum, Aggregate.TheVariants.Count, Aggregate.TheVariants.Min, Aggregate.TheVariants.Max}
 
 -- what a row contributes to its groups: its keys, and a number for each aggregate, which for COUNT
@@ -66,13 +64,13 @@ aggregate Max numbers = joined int_max numbers
 
 -- the numbers of one aggregate, one for each row
 abbrev pub numbers_for : {K : Type 0} → ℕ → List (Entry K) → List ℤ
-numbers_for place rows = map (λ row. slice_index_or row.values place (pos 0)) rows
+numbers_for index rows = map (λ row. slice_index_or row.values index (pos 0)) rows
 
 -- each aggregate over some rows, beginning with the aggregate at an index
 abbrev pub totals_from : {K : Type 0} → List Aggregate → ℕ → List (Entry K) → List (Option ℤ)
-totals_from [] place rows = []
-totals_from (a ∷ as') place rows =
-    aggregate a (numbers_for place rows) ∷ totals_from as' (place + 1) rows
+totals_from [] index rows = []
+totals_from (a ∷ as') index rows =
+    aggregate a (numbers_for index rows) ∷ totals_from as' (index + 1) rows
 
 abbrev pub totals_of : {K : Type 0} → List Aggregate → List (Entry K) → List (Option ℤ)
 totals_of aggregates rows = totals_from aggregates 0 rows

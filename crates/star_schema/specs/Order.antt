@@ -1,11 +1,8 @@
 -- The order of a group's rows (Gray et al. 1997, section 3.3, on the value ALL; that ALL comes last
 -- is this project's profile).
-use Rattle.std.specs.Prelude.{ℤ, List, [], ◌∷◌, slice_index_or, Option, Some, None}
-use Rattle.std.specs.{Cmp.Lexicographic.slice_cmp, List.Sorted.IsStrictlySortedBy, Ordering.int_cmp, Ordering.nat_cmp, Ordering.ordering_then}
-use Rattle.std.specs.declared.cmp.Ordering.{Ordering, TheVariants.Less, TheVariants.Equal, TheVariants.Greater}
-use Rattle.star_schema.specs.declared.group.{GroupColumn.GroupColumn, Direction.Direction, Direction.TheVariants.Ascending, Direction.TheVariants.Descending, SortKey.SortKey}
+use Rattle.std.specs.{Prelude.{ℤ, List, [], ◌∷◌, slice_index_or, Option, Some, None}, Cmp.Lexicographic.slice_cmp, List.Sorted.IsStrictlySortedBy, Ordering.{int_cmp, nat_cmp, ordering_then}, declared.cmp.Ordering.Ordering, declared.cmp.Ordering.TheVariants.{Less, Equal, Greater}}
+use Rattle.star_schema.specs.{declared.group.GroupColumn.GroupColumn, declared.group.Direction.Direction, declared.group.Direction.TheVariants.{Ascending, Descending}, declared.group.SortKey.SortKey, Groups.GroupRow, Tables.{Value, Number, Text}}
 use Rattle.star_schema.specs.declared.group.GroupColumn.TheVariants as column
-use Rattle.star_schema.specs.{Groups.GroupRow, Tables.Value, Tables.Number, Tables.Text}
 
 -- numbers compare by value, texts by their bytes
 abbrev pub value_cmp : Value → Value → Ordering
@@ -28,10 +25,10 @@ total_cmp _ _ = Equal
 
 abbrev pub column_cmp : {K : Type 0} → (K → K → Ordering) → GroupColumn → GroupRow K → GroupRow K
     → Ordering
-column_cmp cmp (column.Key place) a b =
-    key_cmp cmp (slice_index_or a.keys place None) (slice_index_or b.keys place None)
-column_cmp cmp (column.Aggregate place) a b =
-    total_cmp (slice_index_or a.totals place None) (slice_index_or b.totals place None)
+column_cmp cmp (column.Key index) a b =
+    key_cmp cmp (slice_index_or a.keys index None) (slice_index_or b.keys index None)
+column_cmp cmp (column.Aggregate index) a b =
+    total_cmp (slice_index_or a.totals index None) (slice_index_or b.totals index None)
 
 abbrev directed_cmp : {K : Type 0} → (K → K → Ordering) → GroupColumn → Direction → GroupRow K
     → GroupRow K → Ordering

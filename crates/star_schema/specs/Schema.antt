@@ -2,11 +2,9 @@
 -- are this project's profile).
 use Rattle.std.specs.Prelude.{ℕ, List, Bool, true, false, Option, Some, None, codes, filter, length, map, take}
 use denote.Enum.Declared.{tag_of}
-use Rattle.star_schema.specs.declared.{table.TableId.TableId, table.Key.Key, table.Key.TheVariants.One, table.Key.TheVariants.Two, column.Kind.Kind, column.ColumnId.ColumnId, column.TheConstants.COLUMNS}
+use Rattle.star_schema.specs.{declared.table.TableId.TableId, declared.table.Key.Key, declared.table.Key.TheVariants.{One, Two}, declared.column.Kind.Kind, declared.column.ColumnId.ColumnId, declared.column.TheConstants.COLUMNS, declared.column.ColumnId.TheVariants.{DDatekey, DDate, DDayofweek, DMonth, DYear, DYearmonthnum, DYearmonth, DDaynuminweek, DDaynuminmonth, DDaynuminyear, DMonthnuminyear, DWeeknuminyear, DSellingseason, DLastdayinweekfl, DLastdayinmonthfl, DHolidayfl, DWeekdayfl, CCustkey, CName, CAddress, CCity, CNation, CRegion, CPhone, CMktsegment, SSuppkey, SName, SAddress, SCity, SNation, SRegion, SPhone, PPartkey, PName, PMfgr, PCategory, PBrand1, PColor, PType, PSize, PContainer, LoOrderkey, LoLinenumber, LoCustkey, LoPartkey, LoSuppkey, LoOrderdate, LoOrderpriority, LoShippriority, LoQuantity, LoExtendedprice, LoOrdtotalprice, LoDiscount, LoRevenue, LoSupplycost, LoTax, LoCommitdate, LoShipmode}, contracts.column.ColumnId.the_type}
 use Rattle.star_schema.specs.declared.table.TableId.TheVariants as table
 use Rattle.star_schema.specs.declared.column.Kind.TheVariants as kind
-use Rattle.star_schema.specs.declared.column.ColumnId.TheVariants.{DDatekey, DDate, DDayofweek, DMonth, DYear, DYearmonthnum, DYearmonth, DDaynuminweek, DDaynuminmonth, DDaynuminyear, DMonthnuminyear, DWeeknuminyear, DSellingseason, DLastdayinweekfl, DLastdayinmonthfl, DHolidayfl, DWeekdayfl, CCustkey, CName, CAddress, CCity, CNation, CRegion, CPhone, CMktsegment, SSuppkey, SName, SAddress, SCity, SNation, SRegion, SPhone, PPartkey, PName, PMfgr, PCategory, PBrand1, PColor, PType, PSize, PContainer, LoOrderkey, LoLinenumber, LoCustkey, LoPartkey, LoSuppkey, LoOrderdate, LoOrderpriority, LoShippriority, LoQuantity, LoExtendedprice, LoOrdtotalprice, LoDiscount, LoRevenue, LoSupplycost, LoTax, LoCommitdate, LoShipmode}
-use Rattle.star_schema.specs.contracts.column.ColumnId.{the_type}
 
 unfoldable pub table_name : TableId → List ℕ
 table_name table.Date = codes "date"
@@ -130,8 +128,8 @@ abbrev pub index_of : ColumnId → ℕ
 index_of c = tag_of the_type c
 
 -- the number of columns before this one in its table
-unfoldable pub place_of : ColumnId → ℕ
-place_of c = length (filter (λ d. is_table (table_of c) (table_of d)) (take (index_of c) COLUMNS))
+unfoldable pub position_of : ColumnId → ℕ
+position_of c = length (filter (λ d. is_table (table_of c) (table_of d)) (take (index_of c) COLUMNS))
 
 -- the columns whose values identify a row of a table
 abbrev pub key_of : TableId → Key

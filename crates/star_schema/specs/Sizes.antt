@@ -1,7 +1,6 @@
 -- The row counts of the tables.
 use Rattle.std.specs.Prelude.{ℕ}
-use Rattle.star_schema.specs.declared.{table.TableId.TableId, sizes.Sizes.Sizes}
-use Rattle.star_schema.specs.declared.table.TableId.TheVariants.{Date, Customer, Supplier, Part, Lineorder}
+use Rattle.star_schema.specs.declared.{table.TableId.TableId, sizes.Sizes.Sizes, table.TableId.TheVariants.{Date, Customer, Supplier, Part, Lineorder}}
 
 abbrev pub size_of : Sizes → TableId → ℕ
 size_of sizes Date = sizes.date

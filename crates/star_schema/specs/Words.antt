@@ -1,6 +1,5 @@
 -- Items found by name, and the names of shapes, aggregates and directions.
-use Rattle.std.specs.Prelude.{ℕ, List, Option, codes, find, nat_eq}
-use Rattle.std.specs.Cmp.Lexicographic.{pointwise}
+use Rattle.std.specs.{Prelude.{ℕ, List, Option, codes, find, nat_eq}, Cmp.Lexicographic.pointwise}
 use Rattle.star_schema.specs.declared.group.{Shape.Shape, Aggregate.Aggregate, Direction.Direction}
 use Rattle.star_schema.specs.declared.group.Shape.TheVariants as shape
 use Rattle.star_schema.specs.declared.group.Aggregate.TheVariants as aggregate

@@ -328,8 +328,8 @@ pub fn references(column: ColumnId) -> Option<TableId>
 }
 
 /// Returns the position of the column in its table, from 0.
-pub fn place_of(column: ColumnId) -> usize
-    ensures place { result ≡ spec.place_of column }
+pub fn position_of(column: ColumnId) -> usize
+    ensures index { result ≡ spec.position_of column }
     ensures there { slice_get (spec.columns_of (spec.table_of column)) result ≡ Some column }
 {
     let first = column_at(table_of(column), 0);

@@ -1,7 +1,6 @@
 //! Laws of dictionaries and codes: functions with empty bodies, whose clauses are the laws.
 
-ghost use Rattle.std.specs.Prelude.{◌≡◌, ◌↔◌, ◌+◌, ℕ, List, Contains, nat_lt};
-ghost use Rattle.std.specs.Ordering.{is_lt, is_le, nat_cmp};
+ghost use Rattle.std.specs.{Prelude.{◌≡◌, ◌↔◌, ◌+◌, ℕ, List, Contains, nat_lt}, Ordering.{is_lt, is_le, nat_cmp}};
 ghost use Rattle.star_schema.specs.Dictionary.{text_cmp, dictionary_of, low_in, high_in, IsDictionary, HasCode};
 
 /// States that any texts have exactly one dictionary.
@@ -25,8 +24,7 @@ pub fn texts_have_one_code()
 pub fn codes_compare_as_texts()
     ensures codes { (texts : List (List ℕ)) (a b : List ℕ) (m n : ℕ)
         → HasCode texts a m → HasCode texts b n → nat_cmp m n ≡ text_cmp a b }
-    ensures low { (texts : List (List ℕ)) (text bound : List ℕ) (code : ℕ)
-        → HasCode texts text code
+    ensures low { (texts : List (List ℕ)) (text bound : List ℕ) (code : ℕ) → HasCode texts text code
         → nat_lt code (low_in (dictionary_of texts) bound) ≡ is_lt (text_cmp text bound) }
     ensures high { (texts : List (List ℕ)) (text bound : List ℕ) (code : ℕ)
         → HasCode texts text code

@@ -12,7 +12,7 @@ mod sizes;
 mod table;
 
 pub use column::{
-    COLUMNS, ColumnId, Kind, column_named, is_text, kind_of, place_of, references, table_of,
+    COLUMNS, ColumnId, Kind, column_named, is_text, kind_of, position_of, references, table_of,
 };
 pub use group::{
     AGGREGATES, Aggregate, DIRECTIONS, Direction, GroupColumn, SHAPES, Shape, SortKey,

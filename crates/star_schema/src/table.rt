@@ -97,12 +97,12 @@ pub fn width(table: TableId) -> usize
 }
 
 /// Returns the table's column at a position, from 0.
-pub fn column_at(table: TableId, place: usize) -> ColumnId
-    requires { place < spec.width_of table }
-    ensures at { slice_get (spec.columns_of table) place ≡ Some result }
+pub fn column_at(table: TableId, index: usize) -> ColumnId
+    requires { index < spec.width_of table }
+    ensures at { slice_get (spec.columns_of table) index ≡ Some result }
     ensures table { spec.table_of result ≡ table }
 {
-    columns(table)[place]
+    columns(table)[index]
 }
 
 /// Returns the table's key. No two rows of a loaded table have equal keys.

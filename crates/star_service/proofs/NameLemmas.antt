@@ -1,7 +1,5 @@
 -- A text that is written letter by letter.
-use Rattle.std.proofs.Common.{◌≡◌, ◌∙◌, ◌++◌, ℕ, List, [], append-nil, append_assoc, ap, subst, sym}
-use Rattle.std.proofs.{Output.has_written_append}
-use Rattle.std.specs.{Fmt.HasWritten, declared.fmt.Formatter.Formatter}
+use Rattle.std.{proofs.Common.{◌≡◌, ◌∙◌, ◌++◌, ℕ, List, [], append-nil, append_assoc, ap, subst, sym}, proofs.Output.has_written_append, specs.Fmt.HasWritten, specs.declared.fmt.Formatter.Formatter}
 
 -- what is written, followed by what is left, is the whole
 abbrev pub IsWrittenUpTo : {W : Type 0} → (W → List ℕ → W → Type 0) → (f g : Formatter W)

@@ -1,12 +1,7 @@
 -- Reports of files, one after another.
-use Rattle.std.proofs.Common.{◌≡◌, ◌∙◌, ◌++◌, ◌+◌, ◌<◌, ◌&&◌, ℕ, suc, List, [], ◌∷◌, Bool, true, false, Option, Some, None, ap, drop, get_or, inl, inr, length, refl, subst, sym, take}
-use Rattle.std.proofs.{Math.Bool.and-true, Math.Bool.and_assoc, Math.Seq.drop-cons, lemmas.List.take-append-drop, lemmas.List.take_more}
-use Rattle.std.specs.Prelude.{Result, Ok, Err}
+use Rattle.std.{proofs.Common.{◌≡◌, ◌∙◌, ◌++◌, ◌+◌, ◌<◌, ◌&&◌, ℕ, suc, List, [], ◌∷◌, Bool, true, false, Option, Some, None, ap, drop, get_or, inl, inr, length, refl, subst, sym, take}, proofs.Math.Bool.{and-true, and_assoc}, proofs.Math.Seq.drop-cons, proofs.lemmas.List.{take-append-drop, take_more}, specs.Prelude.{Result, Ok, Err}}
 use Rattle.star_engine.specs.{declared.fault.EngineFault.EngineFault, Answered.Change, Answered.HasGained, Answered.OrMemory, Loads.Loaded, WithNotes.RunText, RunTexts.IsFileRunOver, RunTexts.IsForecastOver, RunTexts.IsForecastErrorOver}
-use Rattle.star_service.specs.Reports.{AreJobsForecast, AreJobsRun, IsDue, IsForecastHalted, IsHalted, IsJobForecast, IsJobRun, named_line, refused_line, run_line}
-use Rattle.star_service.specs.ReportSinks.{HasStored, HasStoredNone, HaveSameReports, SinkChange, StoredReport, sink_change}
-use Rattle.star_service.specs.{Private.ReportSteps.IsLineWritten, Private.ReportSteps.IsRefusalPrinted, Private.ReportSteps.IsStoredAndPrinted, declared.reports.Halt.Halt, declared.reports.Halt.TheVariants.OutOfMemory, declared.reports.Halt.TheVariants.Unstored, declared.reports.ReportJob.ReportJob}
-use Rattle.star_service.specs.{declared.reports.Halt.TheVariants.Unwritten}
+use Rattle.star_service.specs.{Reports.{AreJobsForecast, AreJobsRun, IsDue, IsForecastHalted, IsHalted, IsJobForecast, IsJobRun, named_line, refused_line, run_line}, ReportSinks.{HasStored, HasStoredNone, HaveSameReports, SinkChange, StoredReport, sink_change}, Private.ReportSteps.{IsLineWritten, IsRefusalPrinted, IsStoredAndPrinted}, declared.reports.Halt.Halt, declared.reports.Halt.TheVariants.{OutOfMemory, Unstored, Unwritten}, declared.reports.ReportJob.ReportJob}
 use Rattle.star_engine.specs.declared.fault.EngineFault.TheVariants as engine
 
 same_self : (known : Option (List StoredReport)) → HaveSameReports known known
@@ -15,8 +10,7 @@ same_self (Some reports) = refl
 
 -- a report sink that no report is put on keeps those that it has
 pub stored_none : {K : Type 0} (reports : K → Option (List StoredReport)) (failed_at : K → Option ℕ)
-    (sink : K)
-    → HasStoredNone (sink_change reports failed_at sink sink)
+    (sink : K) → HasStoredNone (sink_change reports failed_at sink sink)
 stored_none reports failed_at sink = record { same = same_self (reports sink); untried = refl }
 
 module _ {K S : Type 0} (loaded : Loaded) where
@@ -57,7 +51,8 @@ module _ {K S : Type 0} (loaded : Loaded) where
               (
                 here,
                 (
-                  delivered_more others job (record sink { old = k }) (record out { old = t }) stored
+                  delivered_more others job (record sink { old = k })
+                      (record out { old = t }) stored
                       printed r answered rest last,
                   ap (λ b. b && answered) e ∙ and_assoc a r answered,
                 ),
@@ -108,8 +103,7 @@ module _ {S : Type 0} (loaded : Loaded) where
 
 -- a report that was kept, and its line printed
 pub stored_run : {K S : Type 0} (loaded : Loaded) (name file : List ℕ) (run : RunText)
-    (sink : SinkChange K) (out : Change S)
-    → IsFileRunOver loaded.visits loaded.database file run
+    (sink : SinkChange K) (out : Change S) → IsFileRunOver loaded.visits loaded.database file run
     → HasStored sink name run.report → HasGained out (run_line name run)
     → IsJobRun loaded name file sink out (Ok true)
 stored_run loaded name file run sink out printed stored gained = (
@@ -122,8 +116,7 @@ stored_run loaded name file run sink out printed stored gained = (
 refusal_delivered : {K S : Type 0} (loaded : Loaded) (name file : List ℕ) (fault : EngineFault)
     (sink : SinkChange K) (out : Change S) (result : Result Bool Halt) → HasStoredNone sink
     → IsForecastErrorOver loaded.visits loaded.database file fault
-    → IsRefusalPrinted name fault out result
-    → IsJobRun loaded name file sink out result
+    → IsRefusalPrinted name fault out result → IsJobRun loaded name file sink out result
 refusal_delivered loaded name file fault sink out (Ok answered) none due printed =
     let line = refused_line name fault in
     let refused : IsDue loaded name file sink false line =
@@ -185,8 +178,7 @@ stored_halted loaded name file run sink out (Unwritten sent) printed is = (
 
 -- a forecast whose line could not be written
 pub forecast_halted : {S : Type 0} (loaded : Loaded) (name file forecast line : List ℕ)
-    (out : Change S)
-    (halt : Halt) → IsForecastOver loaded.visits loaded.database file forecast
+    (out : Change S) (halt : Halt) → IsForecastOver loaded.visits loaded.database file forecast
     → line ≡ named_line name forecast → IsLineWritten out line (Err halt)
     → IsJobForecast loaded name file out (Err halt)
 forecast_halted loaded name file forecast line out OutOfMemory judged lined never = absurd never
@@ -195,7 +187,7 @@ forecast_halted loaded name file forecast line out (Unstored named sent) judged 
 forecast_halted loaded name file forecast line out (Unwritten sent) judged lined part =
     (true, (line, ((forecast, judged, lined), part)))
 
--- ---- by their places
+-- ---- by their positions
 
 module _ {K S : Type 0} (loaded : Loaded) (jobs : List ReportJob) (i : ℕ) (d : ReportJob)
     (below : i < length jobs) (sink : SinkChange K) (out : Change S) (stored : K) (printed : S)

@@ -1,13 +1,9 @@
 -- A session that is under way, from its first statement to its end.
-use Rattle.std.proofs.Common.{◌≡◌, ◌++◌, ◌+◌, ◌-◌, ◌^◌, ◌<◌, ◌≤◌, ℕ, List, [], ◌∷◌, Bool, true, false, Option, arith, inl, inr, length, refl, subst, sym}
-use Rattle.std.proofs.{lemmas.List.length-append}
-use Rattle.std.specs.Prelude.{Err}
+use Rattle.std.{proofs.Common.{◌≡◌, ◌++◌, ◌+◌, ◌-◌, ◌^◌, ◌<◌, ◌≤◌, ℕ, List, [], ◌∷◌, Bool, true, false, Option, arith, inl, inr, length, refl, subst, sym}, proofs.lemmas.List.length-append, specs.Prelude.Err}
 use Rattle.star_engine.specs.{Answered.Change, Loads.Loaded}
 use Rattle.star_statements.specs.{Sources.IsPastCounting, declared.sources.ReadFault.TheVariants.Failed as ReadFailed, declared.sources.ReadFault.TheVariants.OutOfMemory as ReadMemory}
 use Rattle.star_statements.proofs.DraftLemmas.{consumed_both}
-use Rattle.star_service.specs.Sessions.{AreAllAnswered, AreAnswered, AreStatementsRun, IsStatementUnread, IsUnwritten}
-use Rattle.star_service.specs.{declared.sessions.Stop.Stop, declared.sessions.Stop.TheVariants.Unread, declared.sessions.Stop.TheVariants.Unwritten, Private.Turns.IsPrompted, Private.Turns.IsStatementAnswered, Private.Turns.IsTurn}
-use Rattle.star_service.proofs.SessionLemmas.{all_answered, answered_more, none_answered}
+use Rattle.star_service.{specs.Sessions.{AreAllAnswered, AreAnswered, AreStatementsRun, IsStatementUnread, IsUnwritten}, specs.declared.sessions.Stop.Stop, specs.declared.sessions.Stop.TheVariants.{Unread, Unwritten}, specs.Private.Turns.{IsPrompted, IsStatementAnswered, IsTurn}, proofs.SessionLemmas.{all_answered, answered_more, none_answered}}
 
 -- statements were answered, one after another, which have at least `many` bytes
 pub record IsUnderWay {S E : Type 0} (loaded : Loaded) (is_terminal : Bool)
@@ -113,8 +109,7 @@ module _ {S E : Type 0} (loaded : Loaded) (is_terminal : Bool) where
 
   -- more statements than are counted
   pub is_past : (old new : Option (List ℕ)) (failed : Bool) (out : Change S) (err : Change E)
-      (many : ℕ)
-      → 2 ^ 64 - 1 ≤ many → IsUnderWay loaded is_terminal old new out err many
+      (many : ℕ) → 2 ^ 64 - 1 ≤ many → IsUnderWay loaded is_terminal old new out err many
       → AreStatementsRun loaded is_terminal old new failed out err (Err (Unread ReadFailed))
   is_past old new failed out err many most under_way = (
     record {

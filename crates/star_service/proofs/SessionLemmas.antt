@@ -1,8 +1,7 @@
 -- Rounds of a session, one after another.
 use Rattle.std.proofs.Common.{◌≡◌, ◌∙◌, ◌++◌, ℕ, List, [], ◌∷◌, Bool, true, false, Option, append_assoc, ap, refl, subst, sym}
 use Rattle.star_engine.specs.{Answered.Change, Loads.Loaded}
-use Rattle.star_statements.specs.{Sources.IsStatementRead, Statements.statements_of}
-use Rattle.star_statements.proofs.DraftLemmas.{consumed_both, consumed_none}
+use Rattle.star_statements.{specs.Sources.IsStatementRead, specs.Statements.statements_of, proofs.DraftLemmas.{consumed_both, consumed_none}}
 use Rattle.star_service.specs.Sessions.{AreAllAnswered, AreAnswered, AreRounds, IsRound}
 
 module _ {S E : Type 0} (loaded : Loaded) (is_terminal : Bool) where

@@ -1,9 +1,6 @@
 -- The lines of faults and of reports as they are read, and names of files on one line.
-use Rattle.std.proofs.Common.{◌≡◌, ◌++◌, ℕ, List, [], ◌∷◌, true, encode_utf8_all, flat_map, refl, ap}
-use Rattle.std.proofs.lemmas.Str.{chars-encodes}
-use Rattle.std.specs.Prelude.{codes, map}
+use Rattle.std.{proofs.Common.{◌≡◌, ◌++◌, ℕ, List, [], ◌∷◌, true, encode_utf8_all, flat_map, refl, ap}, proofs.lemmas.Str.chars-encodes, specs.Prelude.{codes, map}, specs.Fmt.digits}
 use lib.Utf8.{encode, scalars}
-use Rattle.std.specs.Fmt.{digits}
 use Rattle.star_engine.specs.{FaultTexts.engine_fault_text, declared.fault.EngineFault.TheVariants.OutOfMemory, declared.fault.EngineFault.TheVariants.Write}
 use Rattle.star_service.specs.{Lines.fault_line, Reports.named_line, Reports.run_line, Names.printed_letter, Names.printed_name}
 

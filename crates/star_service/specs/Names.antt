@@ -1,6 +1,5 @@
 -- Names of files on one line.
-use Rattle.std.specs.Prelude.{ℕ, List, ◌==◌, ◌||◌, if◌then◌else◌, codes, chars, flat_map, encode_utf8, encode_utf8_all}
-use Rattle.std.specs.{Char.is_control, Char.Escape.backslash, Char.Escape.escape_default}
+use Rattle.std.specs.{Prelude.{ℕ, List, ◌==◌, ◌||◌, if◌then◌else◌, codes, chars, flat_map, encode_utf8, encode_utf8_all}, Char.is_control, Char.Escape.{backslash, escape_default}}
 
 -- a letter: control characters and the backslash as Rust's `escape_debug` writes them, any other as
 -- it is

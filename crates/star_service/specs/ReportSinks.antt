@@ -1,4 +1,4 @@
--- The place that keeps reports, before and after a call.
+-- The position that keeps reports, before and after a call.
 use Rattle.std.specs.Prelude.{◌≡◌, ◌≤◌, ◌++◌, ℕ, List, [], ◌∷◌, Option, Some, None, length, ⊤}
 use Rattle.star_service.specs.{declared.report_sink.ReportSinkFault.ReportSinkFault, declared.report_sink.ReportSinkFault.TheVariants.OutOfMemory, declared.report_sink.ReportSinkFault.TheVariants.Write}
 
@@ -7,8 +7,8 @@ pub record StoredReport : Type 0 where
   pub name : List ℕ
   pub report : List ℕ
 
--- a report sink before and after a call, with the reports that such a report sink has, if they are known, and
--- how many bytes of the last report were sent, if a write of it failed
+-- a report sink before and after a call, with the reports that such a report sink has, if they are
+-- known, and how many bytes of the last report were sent, if a write of it failed
 pub record SinkChange (K : Type 0) : Type 0 where
   pub reports : K → Option (List StoredReport)
   pub failed_at : K → Option ℕ
@@ -47,7 +47,8 @@ pub record HasStoredNone {K : Type 0} (sink : SinkChange K) : Type 0 where
   pub same : HaveSameReports (sink.reports sink.old) (sink.reports sink.new)
   pub untried : sink.failed_at sink.new ≡ sink.failed_at sink.old
 
--- the report sink has no report more: a write of this one failed, `sent` bytes into it or at its end
+-- the report sink has no report more: a write of this one failed, `sent` bytes into it or at its
+-- end
 pub record HasFailedAt {K : Type 0} (sink : SinkChange K) (report : List ℕ)
     (sent : ℕ) : Type 0 where
   pub part : sent ≤ length report

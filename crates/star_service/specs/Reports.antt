@@ -1,8 +1,7 @@
 -- The output of reports of many files, over tables that are loaded once.
 use Rattle.std.specs.Prelude.{◌≡◌, ◌⊎◌, ◌++◌, ◌-◌, ◌&&◌, ℕ, List, [], ◌∷◌, Bool, true, false, Result, Ok, Err, codes, length, take}
 use Rattle.star_engine.specs.{declared.fault.EngineFault.EngineFault, Answered.Change, Answered.HasGained, Answered.HasGainedPart, Answered.IsUntouched, Loads.Loaded, WithNotes.RunText, RunTexts.IsFileRunOver, RunTexts.IsForecastOver, RunTexts.IsForecastErrorOver}
-use Rattle.star_service.specs.{Lines.fault_line, Names.printed_name, ReportSinks.HasFailedAt, ReportSinks.HasStored, ReportSinks.HasStoredNone, ReportSinks.SinkChange, declared.reports.Halt.Halt, declared.reports.Halt.TheVariants.OutOfMemory, declared.reports.ReportJob.ReportJob}
-use Rattle.star_service.specs.{declared.reports.Halt.TheVariants.Unstored, declared.reports.Halt.TheVariants.Unwritten}
+use Rattle.star_service.specs.{Lines.fault_line, Names.printed_name, ReportSinks.{HasFailedAt, HasStored, HasStoredNone, SinkChange}, declared.reports.Halt.Halt, declared.reports.Halt.TheVariants.{OutOfMemory, Unstored, Unwritten}, declared.reports.ReportJob.ReportJob}
 
 -- ---- lines
 
@@ -79,8 +78,7 @@ IsForecastLine loaded name file false line = IsRefusedLine loaded name file line
 
 -- the result of such a file: the line is printed
 abbrev pub IsJobForecast : {S : Type 0} → Loaded → (name file : List ℕ) → Change S
-    → Result Bool Halt
-    → Type 0
+    → Result Bool Halt → Type 0
 IsJobForecast loaded name file out (Ok accepted) =
     (line : List ℕ) × IsForecastLine loaded name file accepted line × HasGained out line
 IsJobForecast loaded name file out (Err OutOfMemory) = IsUntouched out

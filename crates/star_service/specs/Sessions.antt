@@ -1,9 +1,6 @@
 -- The output of a session: for each of its statements, and for all that a source has.
-use Rattle.std.specs.Prelude.{◌≡◌, ◌⊎◌, ◌++◌, ℕ, List, [], ◌∷◌, Bool, true, false, Option, Result, Ok, Err, codes, if◌then◌else◌}
-use Rattle.std.specs.{Io.KnownBytes.Consumes, Io.KnownBytes.IsAtEnd}
-use Rattle.star_engine.specs.Queries.{IsExplained, IsQueryError, IsQueryQuoteOver, IsQueryRunErrorOver, IsQueryRunOver}
-use Rattle.star_engine.specs.{declared.fault.EngineFault.EngineFault, declared.fault.EngineFault.TheVariants.Query, declared.fault.EngineFault.TheVariants.Write, Answered.Change, Answered.IsAnswered, Answered.IsUntouched, Loads.Loaded, WithNotes.IsAnsweredWithNotes, QuoteTexts.IsQuoteTextOver}
-use Rattle.star_engine.specs.{QuoteTexts.IsQuoteErrorOver}
+use Rattle.std.specs.{Prelude.{◌≡◌, ◌⊎◌, ◌++◌, ℕ, List, [], ◌∷◌, Bool, true, false, Option, Result, Ok, Err, codes, if◌then◌else◌}, Io.KnownBytes.{Consumes, IsAtEnd}}
+use Rattle.star_engine.specs.{Queries.{IsExplained, IsQueryError, IsQueryQuoteOver, IsQueryRunErrorOver, IsQueryRunOver}, declared.fault.EngineFault.EngineFault, declared.fault.EngineFault.TheVariants.{Query, Write}, Answered.{Change, IsAnswered, IsUntouched}, Loads.Loaded, WithNotes.IsAnsweredWithNotes, QuoteTexts.{IsQuoteTextOver, IsQuoteErrorOver}}
 use Rattle.star_statements.specs.{Questions.asked_by, Sources.IsPastCounting, Sources.IsStatementRead, Statements.statements_of, declared.questions.Question.Question, declared.sources.ReadFault.TheVariants.Failed as ReadFailed}
 use Rattle.star_statements.specs.{declared.sources.ReadFault.TheVariants.OutOfMemory as ReadMemory}
 use Rattle.star_service.specs.{Lines.IsFaultPrinted, Lines.IsTextPrinted, declared.sessions.Stop.Stop, declared.sessions.Stop.TheVariants.Unread, declared.sessions.Stop.TheVariants.Unwritten}
@@ -136,8 +133,8 @@ pub record IsStatementUnread {S E : Type 0} (loaded : Loaded) (is_terminal : Boo
   pub is_prompted : Bool
   pub prompt : IsTextPrinted (record err { old = noted }) (prompt_of is_prompted)
 
--- the output of a session for all that a source has, if a source has these bytes left before and after it,
--- and whether a read of it has failed
+-- the output of a session for all that a source has, if a source has these bytes left before and
+-- after it, and whether a read of it has failed
 abbrev pub AreStatementsRun : {S E : Type 0} → Loaded → (is_terminal : Bool)
     → (old new : Option (List ℕ))
     → (failed : Bool) → Change S → Change E → Result (Unit {0}) Stop → Type 0

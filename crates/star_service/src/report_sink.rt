@@ -1,4 +1,4 @@
-// Places that keep reports.
+// Indexes that keep reports.
 
 ghost use Rattle.std.specs.Prelude.{ℕ, List, Option, None, IfErr, OnOk};
 ghost use Rattle.star_common.specs.Memory.{TellsMemory};
@@ -25,7 +25,7 @@ impl From<AllocError> for ReportSinkFault {
 
 // A report sink keeps how far the report came whose write failed: else a body that reports a
 // failed write without any would meet the contract.
-/// A place that keeps reports, each under a name of its own.
+/// A position that keeps reports, each under a name of its own.
 pub trait ReportSink {
     // The reports that were kept, in order, if they are known.
     ghost reports: { Self → Option (List StoredReport) };

@@ -4,8 +4,7 @@
 ghost use Rattle.std.specs.Prelude.{◌≡◌, ◌<◌, Err, IfOk, MatchResult, length, string_bytes};
 ghost use Rattle.star_common.specs.Memory.{TellsMemory};
 ghost use Rattle.star_engine.specs.{Answered.OrMemory, Answered.change, RunTexts.IsFileRunOver, RunTexts.IsForecastErrorOver, RunTexts.IsForecastOver, RunTexts.run_text_of};
-ghost use Rattle.star_service.specs.Reports.{AreAllJobsForecast, AreAllJobsRun, IsJobForecast, IsJobRun, run_line};
-ghost use Rattle.star_service.specs.{Private.ReportSteps.IsLineWritten, Private.ReportSteps.IsRefusalPrinted, Private.ReportSteps.IsStoredAndPrinted, ReportSinks.sink_change, declared.reports.Halt.TheVariants.OutOfMemory};
+ghost use Rattle.star_service.specs.{Reports.{AreAllJobsForecast, AreAllJobsRun, IsJobForecast, IsJobRun, run_line}, Private.ReportSteps.{IsLineWritten, IsRefusalPrinted, IsStoredAndPrinted}, ReportSinks.sink_change, declared.reports.Halt.TheVariants.OutOfMemory};
 ghost use Rattle.star_service.specs.Reports as spec;
 
 use crate::names::Shown;

@@ -2,8 +2,7 @@
 
 ghost use Rattle.std.specs.Prelude.{◌≡◌};
 ghost use Rattle.star_engine.specs.{Answered.IsAnswered, Answered.change, QuoteTexts.IsQuoteErrorOver, QuoteTexts.IsQuoteTextOver};
-ghost use Rattle.star_service.specs.Sessions.{AreStatementsRun, IsAnswerTo, IsLineEnded, IsReportEnded, IsReported, IsSession, IsSessionEnded, IsStep};
-ghost use Rattle.star_service.specs.{Private.Turns.IsTurn};
+ghost use Rattle.star_service.specs.{Sessions.{AreStatementsRun, IsAnswerTo, IsLineEnded, IsReportEnded, IsReported, IsSession, IsSessionEnded, IsStep}, Private.Turns.IsTurn};
 ghost use Rattle.star_statements.specs.{Questions.asked_by_text, Sources.has_failed, Sources.reader_of};
 ghost use Rattle.star_service.specs.Sessions as spec;
 

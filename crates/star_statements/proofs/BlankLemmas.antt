@@ -1,6 +1,5 @@
 -- Blanks in front of a text.
-use Rattle.std.proofs.Common.{◌≡◌, ◌++◌, ◌&&◌, ℕ, List, [], ◌∷◌, Bool, true, false, refl, arith}
-use Rattle.std.specs.Prelude.{if◌then◌else◌}
+use Rattle.std.{proofs.Common.{◌≡◌, ◌++◌, ◌&&◌, ℕ, List, [], ◌∷◌, Bool, true, false, refl, arith}, specs.Prelude.if◌then◌else◌}
 use Rattle.star_statements.specs.{Blanks.without_blanks, Private.Drafts.is_empty}
 use Rattle.star_common.specs.WhiteSpace.{is_blank}
 
@@ -18,8 +17,7 @@ unfolding without_blanks
 past_blank c rest blank = if_true _ _ (is_blank c) blank
 
 -- none in front
-pub no_blank : (c : ℕ) (rest : List ℕ) → is_blank c ≡ false
-    → without_blanks (c ∷ rest) ≡ c ∷ rest
+pub no_blank : (c : ℕ) (rest : List ℕ) → is_blank c ≡ false → without_blanks (c ∷ rest) ≡ c ∷ rest
 unfolding without_blanks
 no_blank c rest none = if_false _ _ (is_blank c) none
 

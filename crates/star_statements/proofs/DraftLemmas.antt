@@ -1,11 +1,7 @@
 -- A statement that is being read, from its first byte to its last.
-use Rattle.std.proofs.Common.{◌≡◌, ◌∙◌, ◌++◌, ◌+◌, ◌<◌, ◌≤◌, ◌&&◌, ◌||◌, ℕ, List, [], ◌∷◌, Bool, true, false, Option, Some, append-nil, append_assoc, ap, arith, length, subst, sym, take}
-use Rattle.std.proofs.{lemmas.List.length-append, lemmas.List.length-take, lemmas.Grind.common_steps}
-use Rattle.std.specs.{Prelude.IfSome, Prelude.if◌then◌else◌, Prelude.nat_lt, Io.KnownBytes.Consumes, Io.KnownBytes.IsAtEnd}
-use Rattle.star_statements.specs.Private.Drafts.{IsDraft, closes_statement, cut_statements, ends_behind, is_empty, kept, with_byte}
-use Rattle.star_statements.specs.{Blanks.without_blanks, Questions.asked_by, Questions.asked_by_text, Sources.IsStatementRead, Statements.joined_to_first, Statements.statements_of}
+use Rattle.std.{proofs.Common.{◌≡◌, ◌∙◌, ◌++◌, ◌+◌, ◌<◌, ◌≤◌, ◌&&◌, ◌||◌, ℕ, List, [], ◌∷◌, Bool, true, false, Option, Some, append-nil, append_assoc, ap, arith, length, subst, sym, take}, proofs.lemmas.List.{length-append, length-take}, proofs.lemmas.Grind.common_steps, specs.Prelude.{IfSome, if◌then◌else◌, nat_lt}, specs.Io.KnownBytes.{Consumes, IsAtEnd}}
+use Rattle.star_statements.{specs.Private.Drafts.{IsDraft, closes_statement, cut_statements, ends_behind, is_empty, kept, with_byte}, specs.Blanks.without_blanks, specs.Questions.{asked_by, asked_by_text}, specs.Sources.IsStatementRead, specs.Statements.{joined_to_first, statements_of}, proofs.BlankLemmas.{if_false, if_true, without_blanks-more}, proofs.QuestionLemmas.asked-front, proofs.StatementLemmas.{joined_assoc, statements_cut, statements_from_cut}}
 use Rattle.star_common.specs.WhiteSpace.{is_blank}
-use Rattle.star_statements.proofs.{BlankLemmas.if_false, BlankLemmas.if_true, BlankLemmas.without_blanks-more, QuestionLemmas.asked-front, StatementLemmas.joined_assoc, StatementLemmas.statements_cut, StatementLemmas.statements_from_cut}
 
 -- ---- what is kept
 
@@ -18,9 +14,8 @@ is_empty-take most many more it = grind (arith, common_steps)
 
 one_byte : (most many : ℕ) → many ≡ most + 1 → (text : List ℕ) (c : ℕ) (before : Bool)
     → (is_empty text && is_blank c) ≡ before
-    → (if before || nat_lt most (length (take many text)) then take many text
-    else take many text ++ c ∷ [])
-    ≡ take many (if before then [] else text ++ c ∷ [])
+    → (if before || nat_lt most (length (take many text)) then take many text else take many text
+    ++ c ∷ []) ≡ take many (if before then [] else text ++ c ∷ [])
 one_byte most many more text c it e = grind (arith, common_steps)
 
 kept_next : (most many : ℕ) → many ≡ most + 1 → (statement : List ℕ) (c : ℕ)

@@ -1,9 +1,6 @@
 -- What a text asks for.
-use Rattle.std.proofs.Common.{◌≡◌, ◌<◌, ◌≤◌, ◌&&◌, ℕ, List, Bool, true, false, arith, codes, drop, length, map, take}
-use Rattle.std.proofs.{lemmas.Bool.ltb-false, lemmas.Bool.ltb-true, lemmas.Bool.Decides.same_from_decides, lemmas.List.length-take, lemmas.List.take_all, lemmas.Slice.Eq.bytes_eq-Decides, lemmas.Grind.common_steps}
-use Rattle.std.specs.{Bool.Decides, Char.to_ascii_lowercase, Str.str_eq_ignore_ascii_case}
-use Rattle.star_statements.specs.declared.questions.Question.TheVariants.{Nothing, TooLong, Query, Explain, Quote}
-use Rattle.star_statements.specs.{Blanks.is_blank_at_front, Questions.asked_by_text, Questions.begins_with_word, Questions.behind_word}
+use Rattle.std.{proofs.Common.{◌≡◌, ◌<◌, ◌≤◌, ◌&&◌, ℕ, List, Bool, true, false, arith, codes, drop, length, map, take}, proofs.lemmas.Bool.{ltb-false, ltb-true}, proofs.lemmas.Bool.Decides.same_from_decides, proofs.lemmas.List.{length-take, take_all}, proofs.lemmas.Slice.Eq.bytes_eq-Decides, proofs.lemmas.Grind.common_steps, specs.Bool.Decides, specs.Char.to_ascii_lowercase, specs.Str.str_eq_ignore_ascii_case}
+use Rattle.star_statements.specs.{declared.questions.Question.TheVariants.{Nothing, TooLong, Query, Explain, Quote}, Blanks.is_blank_at_front, Questions.{asked_by_text, begins_with_word, behind_word}}
 
 -- two texts that a test has told
 pub told_as : (front word : List ℕ) (same : Bool)

@@ -1,11 +1,7 @@
 -- The statements of a text have its bytes, and are cut by its bytes one after another.
-use Rattle.std.proofs.Common.{◌≡◌, ◌∙◌, ◌++◌, ◌==◌, ◌&&◌, ◌||◌, ℕ, List, [], ◌∷◌, Bool, true, false, ap, refl, subst, sym, arith}
-use Rattle.std.proofs.{lemmas.Bool.eqb-true, Math.Bool.and-false, lemmas.Grind.common_steps}
-use Rattle.std.specs.{Prelude.if◌then◌else◌, List.concat}
-use Rattle.star_statements.proofs.BlankLemmas.{if_false}
+use Rattle.std.{proofs.Common.{◌≡◌, ◌∙◌, ◌++◌, ◌==◌, ◌&&◌, ◌||◌, ℕ, List, [], ◌∷◌, Bool, true, false, ap, refl, subst, sym, arith}, proofs.lemmas.Bool.eqb-true, proofs.Math.Bool.and-false, proofs.lemmas.Grind.common_steps, specs.Prelude.if◌then◌else◌, specs.List.concat}
+use Rattle.star_statements.{proofs.BlankLemmas.if_false, specs.Statements.{ends_statement, joined_to_first, statement_lines, statements_in, statements_of}, specs.Private.Drafts.{cut_statements, ends_behind}}
 use Rattle.star_common.specs.WhiteSpace.{is_blank}
-use Rattle.star_statements.specs.Statements.{ends_statement, joined_to_first, statement_lines, statements_in, statements_of}
-use Rattle.star_statements.specs.{Private.Drafts.cut_statements, Private.Drafts.ends_behind}
 
 pub concat-joined : (piece : List ℕ) (others : List (List ℕ))
     → concat (joined_to_first piece others) ≡ piece ++ concat others
@@ -13,8 +9,7 @@ unfolding joined_to_first
 concat-joined piece it = grind (arith, common_steps)
 
 concat-chosen : (b : Bool) (xs ys : List (List ℕ)) (text : List ℕ) → concat xs ≡ text
-    → concat ys ≡ text
-    → concat (if b then xs else ys) ≡ text
+    → concat ys ≡ text → concat (if b then xs else ys) ≡ text
 concat-chosen it xs ys text e f = grind arith
 
 concat-lines : (text : List ℕ) → concat (statement_lines text) ≡ text

@@ -1,16 +1,13 @@
 -- Texts with their statements, statements with what they ask for, statements that were read of a
 -- source, and more bytes than are counted.
-use Rattle.std.proofs.Common.{◌≡◌, ◌↔◌, ◌<◌, ◌≤◌, ◌++◌, ◌-◌, ◌^◌, ℕ, Bool, List, [], ◌∷◌, Option, true, false, arith, codes, length, refl}
-use Rattle.std.specs.{Borrow.Bor, Io.KnownBytes.Consumes, Io.KnownBytes.IsAtEnd}
+use Rattle.std.{proofs.Common.{◌≡◌, ◌↔◌, ◌<◌, ◌≤◌, ◌++◌, ◌-◌, ◌^◌, ℕ, Bool, List, [], ◌∷◌, Option, true, false, arith, codes, length, refl}, specs.Borrow.Bor, specs.Io.KnownBytes.{Consumes, IsAtEnd}}
 use Rattle.star_common.proofs.Tables.{Gives}
-use Rattle.star_statements.specs.Statements.{ends_statement, joined_to_first, statement_lines, statements_in, statements_of}
-use Rattle.star_statements.specs.declared.questions.Question.TheVariants.{Nothing, TooLong, Query, Explain, Quote}
-use Rattle.star_statements.specs.{Blanks.without_blanks, Questions.asked_by, Questions.asked_by_text, Questions.begins_with_word, Sources.IsPastCounting, Sources.IsStatementRead, Views.question_view}
-use Rattle.star_statements.proofs.QuestionLemmas.{queried, too_long}
+use Rattle.star_statements.{specs.Statements.{ends_statement, joined_to_first, statement_lines, statements_in, statements_of}, specs.declared.questions.Question.TheVariants.{Nothing, TooLong, Query, Explain, Quote}, specs.Blanks.without_blanks, specs.Questions.{asked_by, asked_by_text, begins_with_word}, specs.Sources.{IsPastCounting, IsStatementRead}, specs.Views.question_view, proofs.QuestionLemmas.{queried, too_long}}
 
--- a line that ends with a semicolon ends a statement, with blanks and a carriage return after it too; a
--- semicolon in a line ends none, and a carriage return alone ends no line; what follows the last line
--- end is a statement too, also where it is nothing; an empty line belongs to what follows it
+-- a line that ends with a semicolon ends a statement, with blanks and a carriage return after it
+-- too; a semicolon in a line ends none, and a carriage return alone ends no line; what follows the
+-- last line end is a statement too, also where it is nothing; an empty line belongs to what follows
+-- it
 statements : Gives statements_of (
     (codes "a;\nb;\nc", codes "a;\n" ∷ codes "b;\n" ∷ codes "c" ∷ [])
     ∷ (codes "a; b\nc\n;\nd", codes "a; b\nc\n;\n" ∷ codes "d" ∷ [])
@@ -19,8 +16,8 @@ statements : Gives statements_of (
 unfolding ends_statement statements_in joined_to_first statement_lines
 statements = refl
 
--- a query's text begins with its first byte that is no blank; a word before it, in letters of either
--- case, has blanks after it
+-- a query's text begins with its first byte that is no blank; a word before it, in letters of
+-- either case, has blanks after it
 questions : Gives asked_by (
     (codes "\n\r\n  select\n;\n", Query (codes "select\n;\n"))
     ∷ (codes " Explain\n\tselect;\n", Explain (codes "select;\n")) ∷ (codes "QUOTE ", Quote [])
@@ -58,6 +55,5 @@ module _ (old new : Option (List ℕ)) (text statement : List ℕ) (is_ended : B
     λ h. record { read = h.0; asked = h.1; first = h.2; some = h.3; last = h.4; at_end = h.5 },
   )
 
-  past_counting : IsPastCounting old new text
-      ↔ (Consumes old new text × (2 ^ 64 - 1 ≤ length text))
+  past_counting : IsPastCounting old new text ↔ (Consumes old new text × (2 ^ 64 - 1 ≤ length text))
   past_counting = (λ p. (p.consumed, p.many), λ h. record { consumed = h.0; many = h.1 })

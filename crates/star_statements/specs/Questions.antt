@@ -1,8 +1,6 @@
 -- The request in a statement.
-use Rattle.std.specs.Prelude.{◌&&◌, ℕ, List, [], ◌∷◌, Bool, if◌then◌else◌, codes, drop, length, nat_lt, take}
-use Rattle.std.specs.{Str.str_eq_ignore_ascii_case}
-use Rattle.star_statements.specs.declared.questions.Question.TheVariants.{Nothing, TooLong, Query, Explain, Quote}
-use Rattle.star_statements.specs.{Blanks.is_blank_at_front, Blanks.without_blanks, declared.questions.Question.Question}
+use Rattle.std.specs.{Prelude.{◌&&◌, ℕ, List, [], ◌∷◌, Bool, if◌then◌else◌, codes, drop, length, nat_lt, take}, Str.str_eq_ignore_ascii_case}
+use Rattle.star_statements.specs.{declared.questions.Question.TheVariants.{Nothing, TooLong, Query, Explain, Quote}, Blanks.{is_blank_at_front, without_blanks}, declared.questions.Question.Question}
 
 -- whether a text begins with a keyword, in letters of either case, and a blank after it
 unfoldable pub begins_with_word : (word text : List ℕ) → Bool

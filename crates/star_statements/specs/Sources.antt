@@ -1,6 +1,5 @@
 -- What was read from a source.
-use Rattle.std.specs.Prelude.{◌≡◌, ◌≤◌, ◌<◌, ◌++◌, ◌-◌, ◌^◌, ℕ, List, [], ◌∷◌, Bool, true, false, Option, length}
-use Rattle.std.specs.{Io.KnownBytes.Consumes, Io.KnownBytes.IsAtEnd}
+use Rattle.std.specs.{Prelude.{◌≡◌, ◌≤◌, ◌<◌, ◌++◌, ◌-◌, ◌^◌, ℕ, List, [], ◌∷◌, Bool, true, false, Option, length}, Io.KnownBytes.{Consumes, IsAtEnd}}
 use Rattle.star_statements.specs.{Questions.asked_by, Questions.asked_by_text, Statements.statements_of, declared.sources.Source.Source}
 
 abbrev pub reader_of : {R : Type 0} → Source R → R

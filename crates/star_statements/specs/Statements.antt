@@ -1,7 +1,6 @@
 -- The statements of a text. A statement is the lines up to one that ends with a semicolon, trailing
 -- blanks ignored; the lines after the last of these are the last statement.
-use Rattle.std.specs.Prelude.{◌==◌, ◌&&◌, ◌||◌, ◌++◌, ℕ, List, [], ◌∷◌, Bool, false, if◌then◌else◌}
-use Rattle.std.specs.List.{list_all}
+use Rattle.std.specs.{Prelude.{◌==◌, ◌&&◌, ◌||◌, ◌++◌, ℕ, List, [], ◌∷◌, Bool, false, if◌then◌else◌}, List.list_all}
 use Rattle.star_common.specs.WhiteSpace.{is_blank}
 
 -- a piece of a text joined to the first of those that follow it

@@ -1,7 +1,6 @@
 // The request in a statement.
 
-ghost use Rattle.std.specs.Prelude.{◌≡◌, ◌&&◌, true, false, IfNone, IfSome};
-ghost use Rattle.std.specs.{Str.str_eq_ignore_ascii_case};
+ghost use Rattle.std.specs.{Prelude.{◌≡◌, ◌&&◌, true, false, IfNone, IfSome}, Str.str_eq_ignore_ascii_case};
 ghost use Rattle.star_statements.specs.{Questions.asked_by_text, Questions.begins_with_word, Questions.behind_word, Views.question_view};
 ghost use Rattle.star_statements.specs.Blanks as spec;
 

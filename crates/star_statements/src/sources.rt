@@ -1,7 +1,6 @@
 // The bytes of a reader, one at a time.
 
-ghost use Rattle.std.specs.Prelude.{◌≡◌, [], ◌∷◌, true, false, Ok, None, IfErr, IfOk, IfSome, OnErr, OnOk};
-ghost use Rattle.std.specs.{Io.KnownBytes.Consumes, Io.KnownBytes.IsAtEnd};
+ghost use Rattle.std.specs.{Prelude.{◌≡◌, [], ◌∷◌, true, false, Ok, None, IfErr, IfOk, IfSome, OnErr, OnOk}, Io.KnownBytes.{Consumes, IsAtEnd}};
 ghost use Rattle.star_common.specs.Memory.{TellsMemory};
 ghost use Rattle.star_statements.specs.{Sources.has_failed, Sources.reader_of, declared.sources.ReadFault.TheVariants.OutOfMemory};
 
@@ -49,9 +48,8 @@ impl<R: Read> Source<R> {
         ensures byte { IfOk result (λ next. IfSome next (λ byte.
             Consumes (R.remaining (reader_of self.old)) (R.remaining (reader_of self.new))
             (byte ∷ []))) }
-        ensures end { result ≡ Ok None
-            → Consumes (R.remaining (reader_of self.old)) (R.remaining (reader_of self.new)) []
-            × IsAtEnd (R.remaining (reader_of self.new)) }
+        ensures end { result ≡ Ok None → Consumes (R.remaining (reader_of self.old))
+            (R.remaining (reader_of self.new)) [] × IsAtEnd (R.remaining (reader_of self.new)) }
         ensures unfailed { OnOk result (has_failed self.new ≡ has_failed self.old) }
         ensures failed { OnErr result (has_failed self.new ≡ true) }
         ensures fault { IfErr result (λ fault. fault ≡ ReadFault.Failed) }

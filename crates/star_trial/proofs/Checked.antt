@@ -1,10 +1,6 @@
 -- An instruction that was checked by what the registers hold.
-use Rattle.std.proofs.Common.{◌≡◌, Bool, List, Option, Some, None, ap, sym, ◌∙◌}
-use Rattle.std.proofs.{Math.ListN.get_or-map}
-use Rattle.std.specs.Option.{option_map, option_or}
-use Rattle.star_program.specs.Effects.{State, Traps, act, effect_of, kinds_in, result_trap, unless_trap}
-use Rattle.star_program.specs.Faults.{fault_of, operands_fault, place_fault, target_fault, target_of}
-use Rattle.star_program.specs.{declared.fault.Fault.Fault, declared.fault.TrapKind.TheVariants.Wrong, declared.op.Op.Op, declared.program.Parts.Parts, declared.value.Value.Value, Private.Doing.does, Values.register_kind, World.World}
+use Rattle.std.{proofs.Common.{◌≡◌, Bool, List, Option, Some, None, ap, sym, ◌∙◌}, proofs.Math.ListN.get_or-map, specs.Option.{option_map, option_or}}
+use Rattle.star_program.specs.{Effects.{State, Traps, act, effect_of, kinds_in, result_trap, unless_trap}, Faults.{fault_of, operands_fault, place_fault, target_fault, target_of}, declared.fault.Fault.Fault, declared.fault.TrapKind.TheVariants.Wrong, declared.op.Op.Op, declared.program.Parts.Parts, declared.value.Value.Value, Private.Doing.does, Values.register_kind, World.World}
 use Rattle.star_kinds.specs.Kinds.{register_kinds}
 use Rattle.star_common.proofs.Firsts.{or_none}
 use Rattle.star_trial.specs.Private.Views.{registers_view}

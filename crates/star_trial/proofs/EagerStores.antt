@@ -1,6 +1,5 @@
 -- One more update in the store of a group.
-use Rattle.std.proofs.Common.{◌≡◌, ◌⊎◌, inl, inr, ℕ, true, false, List, ◌∷◌, Some, subst, slice_get, slice_set, ⊎_elim}
-use Rattle.std.specs.Prelude.{Result, Ok, Err, OnOk, IfErr, MatchResult}
+use Rattle.std.{proofs.Common.{◌≡◌, ◌⊎◌, inl, inr, ℕ, true, false, List, ◌∷◌, Some, subst, slice_get, slice_set, ⊎_elim}, specs.Prelude.{Result, Ok, Err, OnOk, IfErr, MatchResult}}
 use Rattle.star_group.specs.{declared.eager.EagerStore.EagerStore, Eager.group_view, Eager.Has, declared.rows.PutFault.PutFault, declared.rows.PutFault.TheVariants.OutOfMemory}
 use Rattle.star_program.specs.{declared.program.Parts.Parts, Effects.with_update, Faults.group_at, Puts.Update, Puts.overflows}
 use Rattle.star_outcome.proofs.Stored.{with_put}
@@ -17,11 +16,10 @@ pub put_answer : (parts : Parts) (stores : List EagerStore) (updates_of : ℕ �
     → IfErr result (λ fault. (fault ≡ OutOfMemory)
     ⊎ ((others : List Update) → Has old others
     → overflows (group_view old).shape (group_view old).aggregates others update ≡ true))
-    → MatchResult result
-    (λ _. AreStores parts (slice_set stores g new) (with_update updates_of g update)
+    → MatchResult result (λ _. AreStores parts (slice_set stores g new)
+    (with_update updates_of g update)
     × (overflows (group_at parts g).shape (group_at parts g).aggregates (updates_of g) update
-    ≡ false))
-    (λ fault. (fault ≡ OutOfMemory)
+    ≡ false)) (λ fault. (fault ≡ OutOfMemory)
     ⊎ (overflows (group_at parts g).shape (group_at parts g).aggregates (updates_of g) update
     ≡ true))
 put_answer parts stores updates_of g old new update (Ok u) are there same has stays over =

@@ -1,11 +1,7 @@
 -- What an instruction does, by what was computed for it.
-use Rattle.std.proofs.Common.{◌≡◌, ℕ, ℤ, Bool, true, false, Some, None, Option, refl, sym, subst}
-use Rattle.std.specs.Prelude.{Result, Ok, Err, MatchOption, if◌then◌else◌}
+use Rattle.std.{proofs.Common.{◌≡◌, ℕ, ℤ, Bool, true, false, Some, None, Option, refl, sym, subst}, specs.Prelude.{Result, Ok, Err, MatchOption, if◌then◌else◌}}
 use Rattle.star_schema.specs.Database.{Database}
-use Rattle.star_program.specs.Effects.{State, Effect, GoesOn, answer_of, fits_register, unless_trap}
-use Rattle.star_program.specs.{declared.op.Operator.Operator, declared.op.Operator.TheVariants.Add, declared.op.Operator.TheVariants.Sub, declared.op.Operator.TheVariants.Mul, declared.op.Operator.TheVariants.Less, declared.program.Parts.Parts, Faults.unless, Private.Doing.fitting}
-use Rattle.star_program.specs.{Private.Doing.sets_answer, declared.fault.TrapKind.TheVariants.Overflow, declared.value.Value.Value, declared.value.Value.TheVariants.Number}
-use Rattle.star_program.specs.{Values.Registers, Values.with_entry}
+use Rattle.star_program.specs.{Effects.{State, Effect, GoesOn, answer_of, fits_register, unless_trap}, declared.op.Operator.Operator, declared.op.Operator.TheVariants.{Add, Sub, Mul, Less}, declared.program.Parts.Parts, Faults.unless, Private.Doing.{fitting, sets_answer}, declared.fault.TrapKind.TheVariants.Overflow, declared.value.Value.Value, declared.value.Value.TheVariants.Number, Values.{Registers, with_entry}}
 use Rattle.star_trial.specs.{declared.fault.Stop.Stop, Private.Acts.IsValueMade, Private.Acts.Sets, Private.Runs.HasDone, Private.Runs.Run}
 use Rattle.star_outcome.specs.Sound.{IsSoundValue}
 use Rattle.star_group.specs.declared.rows.PutFault.TheVariants as memory

@@ -1,7 +1,5 @@
 -- Registers in a list.
-use Rattle.std.proofs.Common.{◌≡◌, ℕ, ◌<◌, List, length, Option, Some, None, sym, ap, ◌∙◌, ⊎_elim, get_or, subst}
-use Rattle.std.proofs.{lemmas.Bool.Decides.eqb_tells, lemmas.List.get_or-set_same, lemmas.List.get_or-set_other}
-use Rattle.std.specs.Prelude.{slice_set, if◌then◌else◌}
+use Rattle.std.{proofs.Common.{◌≡◌, ℕ, ◌<◌, List, length, Option, Some, None, sym, ap, ◌∙◌, ⊎_elim, get_or, subst}, proofs.lemmas.Bool.Decides.eqb_tells, proofs.lemmas.List.{get_or-set_same, get_or-set_other}, specs.Prelude.{slice_set, if◌then◌else◌}}
 use Rattle.star_schema.specs.Database.{Database}
 use Rattle.star_program.specs.{declared.value.Value.Value, Values.Registers, Values.no_registers, Values.with_entry}
 use Rattle.star_trial.specs.Private.Views.{registers_view}

@@ -1,17 +1,10 @@
 -- One step of a walk, and one turn of a scan.
-use Rattle.std.proofs.Common.{◌≡◌, ◌<◌, ◌≤◌, ◌+◌, ◌-◌, ◌*◌, ℕ, Bool, true, false, List, length, drop, get_or, arith, ap, sym, subst, ◌∙◌, refl}
-use Rattle.std.proofs.{lemmas.Bool.lt-ltb, Math.Nat.mul-le-mul_right}
-use Rattle.std.specs.Prelude.{nat_lt}
+use Rattle.std.{proofs.Common.{◌≡◌, ◌<◌, ◌≤◌, ◌+◌, ◌-◌, ◌*◌, ℕ, Bool, true, false, List, length, drop, get_or, arith, ap, sym, subst, ◌∙◌, refl}, proofs.lemmas.Bool.lt-ltb, proofs.Math.Nat.mul-le-mul_right, specs.Prelude.nat_lt}
 use Rattle.star_schema.specs.{declared.table.TableId.TableId, Database.Database}
-use Rattle.star_program.specs.Run.{End, after, begin, follow, meaning, scans, turns, visited}
-use Rattle.star_program.specs.{declared.body.Step.Step, declared.body.Step.TheVariants.Act, declared.body.Step.TheVariants.Scan, declared.op.Op.Op, declared.program.Parts.Parts, Code.Code, Code.Each, Code.code_size, Code.scan_depth, CodeOfSteps.code_of_steps, Effects.State, Effects.Effect}
-use Rattle.star_program.specs.{Effects.act, Values.Registers, Values.with_entry, declared.value.Value.TheVariants.Row, World.World}
-use Rattle.star_program.proofs.Steps.{next_act, next_scan}
+use Rattle.star_program.{specs.Run.{End, after, begin, follow, meaning, scans, turns, visited}, specs.declared.body.Step.Step, specs.declared.body.Step.TheVariants.{Act, Scan}, specs.declared.op.Op.Op, specs.declared.program.Parts.Parts, specs.Code.{Code, Each, code_size, scan_depth}, specs.CodeOfSteps.code_of_steps, specs.Effects.{State, Effect, act}, specs.Values.{Registers, with_entry}, specs.declared.value.Value.TheVariants.Row, specs.World.World, proofs.Steps.{next_act, next_scan}}
 use Rattle.star_safety.proofs.Nested.{deeper_left, deeper_right}
-use Rattle.star_outcome.proofs.Turns.{turn_limited, turn_trapped}
-use Rattle.star_outcome.specs.declared.flow.Flow.{Flow}
-use Rattle.star_trial.specs.{declared.fault.Stop.Stop, declared.fault.TrialFault.TrialFault, declared.machine.Machine.Machine, Private.Acts.Ends, Private.Acts.Goes, Private.Acts.IsActStopped, Private.Acts.IsFlow, Private.Runs.AreStores, Private.Runs.HasDone, Private.Runs.Run}
-use Rattle.star_trial.specs.{Trials.IsFaultOfEnd, Private.Walks.HasWorked, Private.Walks.fault_at, Private.Walks.means}
+use Rattle.star_outcome.{proofs.Turns.{turn_limited, turn_trapped}, specs.declared.flow.Flow.Flow}
+use Rattle.star_trial.specs.{declared.fault.Stop.Stop, declared.fault.TrialFault.TrialFault, declared.machine.Machine.Machine, Private.Acts.{Ends, Goes, IsActStopped, IsFlow}, Private.Runs.{AreStores, HasDone, Run}, Trials.IsFaultOfEnd, Private.Walks.{HasWorked, fault_at, means}}
 use Rattle.star_world.specs.WorldOf.{world_of}
 use Rattle.star_outcome.specs.declared.flow.Flow.TheVariants as flow
 use Rattle.star_trial.specs.declared.fault.Stop.TheVariants as stop
@@ -62,30 +55,30 @@ rest_deep table r n frames body rest h =
 
 -- ---- what is left of a walk
 
-module _ (m : Machine) (steps : List Step) {i : ℕ} {step : Step} (place : ℕ) (inside : Bool)
+module _ (m : Machine) (steps : List Step) {i : ℕ} {step : Step} (index : ℕ) (inside : Bool)
     (registers : Registers) (now : State) where
   pub act_follows : {op : Op} {effect : Effect} → i < length steps → step ≡ get_or steps i step
       → step ≡ Act op → act (world_of m.catalogue.now) m.parts.now inside registers now op ≡ effect
-      → means m (code_of_steps (drop i steps)) place inside registers now
-      ≡ follow place effect (means m (code_of_steps (drop (i + 1) steps)) (place + 1) inside)
+      → means m (code_of_steps (drop i steps)) index inside registers now
+      ≡ follow index effect (means m (code_of_steps (drop (i + 1) steps)) (index + 1) inside)
   act_follows {op = op} lt at is does =
-      ap (λ k. means m k place inside registers now) (next_act steps i step op lt at is)
-      ∙ ap (λ e. follow place e (means m (code_of_steps (drop (i + 1) steps)) (place + 1) inside))
+      ap (λ k. means m k index inside registers now) (next_act steps i step op lt at is)
+      ∙ ap (λ e. follow index e (means m (code_of_steps (drop (i + 1) steps)) (index + 1) inside))
       does
 
   pub scan_follows : {table : TableId} {r : ℕ} {body : Code} {end : End} → i < length steps
       → step ≡ get_or steps i step → step ≡ Scan table r body
-      → scans place (nat_lt r m.parts.now.registers)
+      → scans index (nat_lt r m.parts.now.registers)
       (λ _. turns (λ visits. nat_lt visits m.most) ((world_of m.catalogue.now).size table) 0
-      (λ row. means m body (place + 1) true (with_entry registers r (Row table row))) now) ≡ end
-      → means m (code_of_steps (drop i steps)) place inside registers now
-      ≡ after end (means m (code_of_steps (drop (i + 1) steps)) (place + 1 + code_size body)
+      (λ row. means m body (index + 1) true (with_entry registers r (Row table row))) now) ≡ end
+      → means m (code_of_steps (drop i steps)) index inside registers now
+      ≡ after end (means m (code_of_steps (drop (i + 1) steps)) (index + 1 + code_size body)
       inside registers)
   scan_follows {table = table} {r = r} {body = body} lt at is ended =
-      ap (λ k. means m k place inside registers now) (next_scan steps i step table r body lt at is)
+      ap (λ k. means m k index inside registers now) (next_scan steps i step table r body lt at is)
       ∙ scan_then (world_of m.catalogue.now) m.parts.now (λ visits. nat_lt visits m.most) table r
-      body (code_of_steps (drop (i + 1) steps)) place inside registers now
-      ∙ ap (λ e. after e (means m (code_of_steps (drop (i + 1) steps)) (place + 1 + code_size body)
+      body (code_of_steps (drop (i + 1) steps)) index inside registers now
+      ∙ ap (λ e. after e (means m (code_of_steps (drop (i + 1) steps)) (index + 1 + code_size body)
       inside registers)) ended
 
 -- ---- the beginning of a turn

@@ -4,8 +4,7 @@ ghost use Rattle.std.specs.Prelude.{◌≡◌, ◌<◌, ◌^◌, ℕ, Bool, List
 ghost use Rattle.star_group.specs.{declared.eager.EagerStore.EagerStore, Eager.group_view};
 ghost use Rattle.star_outcome.specs.Private.Placed.{IsPutPlaced};
 ghost use Rattle.star_program.specs.{declared.program.Parts.Parts, Effects.kinds_in, Private.Doing.fitting, Puts.Update};
-ghost use Rattle.star_trial.specs.Private.Acts.{CanAct, HasActed, HasWorkedOnce, Makes, does_op};
-ghost use Rattle.star_trial.specs.{Private.Runs.AreStores, Private.Views.registers_view};
+ghost use Rattle.star_trial.specs.Private.{Acts.{CanAct, HasActed, HasWorkedOnce, Makes, does_op}, Runs.AreStores, Views.registers_view};
 ghost use Rattle.star_world.specs.WorldOf.{world_of};
 ghost use Rattle.star_program.specs.declared.fault.TrapKind.TheVariants as TrapKind;
 ghost use Rattle.star_program.specs.declared.op.Op.TheVariants as op;
@@ -22,7 +21,7 @@ use crate::machine::Machine;
 use crate::puts::put;
 use star_group::EagerStore;
 use star_kinds::check;
-use star_outcome::lookups::{find, load, place};
+use star_outcome::lookups::{edge_index, find, load};
 use star_outcome::{Flow, Work};
 use star_program::{Op, Operation, RegisterList, TrapKind, Value};
 use star_schema::TableId;
@@ -135,7 +134,7 @@ fn operate(
     let catalogue = machine.catalogue;
     match operation {
         Operation::Const { number } => Ok(Value::Number(*number)),
-        Operation::Edge { edge, column, text } => Ok(place(catalogue, *edge, *column, text)),
+        Operation::Edge { edge, column, text } => Ok(edge_index(catalogue, *edge, *column, text)),
         Operation::Load { column, row: at } => Ok(load(catalogue, *column, row(registers, *at))),
         Operation::Find { table, key } => look_up(machine, registers, run, *table, *key),
         Operation::Binary {

@@ -1,9 +1,7 @@
 // What an instruction computes from the registers that it reads.
 
-ghost use Rattle.std.specs.Prelude.{◌≡◌, ◌<◌, ◌&&◌, None, length, slice_index_or};
-ghost use Rattle.std.specs.{Ordering.is_lt, Ordering.is_le};
-ghost use Rattle.star_program.specs.Values.{number_read, flag_read, row_read, key_read, with_entry};
-ghost use Rattle.star_program.specs.{Effects.answer_of, Effects.compared, Private.Doing.fitting};
+ghost use Rattle.std.specs.{Prelude.{◌≡◌, ◌<◌, ◌&&◌, None, length, slice_index_or}, Ordering.{is_lt, is_le}};
+ghost use Rattle.star_program.specs.{Values.{number_read, flag_read, row_read, key_read, with_entry}, Effects.{answer_of, compared}, Private.Doing.fitting};
 ghost use Rattle.star_trial.specs.Private.Views.{registers_view};
 
 use star_program::{KeyValue, Operator, Value};
@@ -22,13 +20,13 @@ fn register(registers: &[Register], number: u16) -> Register
     }
 }
 
-// The number in a register: codes and places compare as numbers.
+// The number in a register: codes and positions compare as numbers.
 pub(crate) fn number(registers: &[Register], at: u16) -> i64
     ensures { result ≡ number_read (registers_view registers.now at) }
 {
     match register(registers, at) {
         Some(Value::Number(number)) => number,
-        Some(Value::Text(_, place) | Value::Place(_, place)) => i64::from(place),
+        Some(Value::Text(_, index) | Value::Place(_, index)) => i64::from(index),
         _ => 0,
     }
 }

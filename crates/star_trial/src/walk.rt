@@ -2,9 +2,8 @@
 
 ghost use Rattle.std.specs.Prelude.{◌≡◌, ◌≤◌, ◌<◌, ◌+◌, ◌^◌, OnOk, length};
 ghost use Rattle.star_program.specs.Code.{code_size, scan_depth};
-ghost use Rattle.star_trial.specs.Private.Views.{registers_view};
+ghost use Rattle.star_trial.specs.Private.{Views.registers_view, Walks.{Does, HasWorked, IsWalkReady, fault_at, means, means_scan, means_turn, means_turns}};
 ghost use Rattle.star_outcome.specs.Sound.{IsSoundValue};
-ghost use Rattle.star_trial.specs.Private.Walks.{Does, HasWorked, IsWalkReady, fault_at, means, means_scan, means_turn, means_turns};
 
 use crate::act::act;
 use crate::compute::{Register, set};
@@ -148,14 +147,14 @@ pub(crate) fn walk(
     ensures len { length registers.new ≡ length registers.old }
     ensures frames { length frames.new ≡ length frames.old }
 {
-    let mut place = at;
+    let mut index = at;
     for step in body.as_slice() {
         match step {
             Step::Act(op) => {
                 match act(machine, inside, registers, run, op) {
-                    Ok(Flow::GoesOn) => place += 1,
+                    Ok(Flow::GoesOn) => index += 1,
                     Ok(Flow::EndsTurn) => return Ok(()),
-                    Err(stop) => return Err(stopped(stop, place)),
+                    Err(stop) => return Err(stopped(stop, index)),
                 }
             }
             Step::Scan {
@@ -167,11 +166,11 @@ pub(crate) fn walk(
                     table: *table,
                     target: *target,
                     body,
-                    at: place,
+                    at: index,
                     before: registers,
                 };
                 scan(machine, &scanned, frames, run)?;
-                place += 1 + size(body);
+                index += 1 + size(body);
             }
         }
     }

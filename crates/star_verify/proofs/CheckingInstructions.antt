@@ -1,17 +1,17 @@
 -- What an instruction is answered, and what a put leaves.
 use Rattle.std.proofs.Common.{◌≡◌, ◌+◌, ◌*◌, ◌<◌, ◌≤◌, ◌⊎◌, ℕ, Bool, List, [], ◌∷◌, ◌++◌, length, Option, Some, None, ⊎_elim, arith, ap, sym, subst, ◌∙◌}
-use Rattle.star_verify.proofs.Common.{Aggregate, All, All-get_or, Context, HasKeyShares, HasShares, IsSmall, IsTally, IsTallyAt, Parts, Plain, Put, Reason, Share, Tally, World, after_op, at_place, eqb_tells, get_or-map, group_at, if◌then◌else◌, key_share, known_share, ltb-false, ltb-true, map, numbers_known, option_or, put_share, slice_index_or}
+use Rattle.star_verify.proofs.Common.{Aggregate, All, All-get_or, Context, HasKeyShares, HasShares, IsSmall, IsTally, IsTallyAt, Parts, Plain, Put, Reason, Share, Tally, World, after_op, at_position, eqb_tells, get_or-map, group_at, if◌then◌else◌, key_share, known_share, ltb-false, ltb-true, map, numbers_known, option_or, put_share, slice_index_or}
 use Rattle.star_safety.specs.Ranges as ranges
 
 -- ---- the first of two reasons
 
 pub first_found : (at : ℕ) (found rest : Option Reason) (r : Reason) → found ≡ Some r
-    → at_place at (option_or found rest) ≡ Some (at, r)
-first_found at found rest r e = ap (λ o. at_place at (option_or o rest)) e
+    → at_position at (option_or found rest) ≡ Some (at, r)
+first_found at found rest r e = ap (λ o. at_position at (option_or o rest)) e
 
 pub second_found : (at : ℕ) (found rest : Option Reason) (r : Reason) → found ≡ None
-    → rest ≡ Some r → at_place at (option_or found rest) ≡ Some (at, r)
-second_found at found rest r e f = λ i. at_place at (option_or (e i) (f i))
+    → rest ≡ Some r → at_position at (option_or found rest) ≡ Some (at, r)
+second_found at found rest r e f = λ i. at_position at (option_or (e i) (f i))
 
 -- ---- the tallies after a put
 
@@ -38,7 +38,8 @@ module _ (w : World) (parts : Parts) (x : Context) (old new : List Tally) (g met
       (slice_index_or (numbers_known (is i) (known i) (same i)) a None) in
       let now : IsTallyAt new (8 * g + a) (share ∷ x.so_far g a) =
       subst (λ s. IsTallyAt new (8 * g + a) (s ∷ x.so_far g a)) one
-      (contribute a (x.so_far g a) (subst (λ l. a < length l) (sym is) in_g) (had g there a in_g)) in
+      (contribute a (x.so_far g a) (subst (λ l. a < length l) (sym is) in_g)
+      (had g there a in_g)) in
       subst (λ (b : Bool). IsTally (slice_index_or new (8 * h + a) t)
       ((if b then share ∷ [] else []) ++ x.so_far h a)) (sym p.0)
       (subst (λ n. IsTally (slice_index_or new (8 * n + a) t) (share ∷ x.so_far n a)) (sym p.1)
@@ -58,10 +59,9 @@ module _ (w : World) (parts : Parts) (x : Context) (old new : List Tally) (g met
 
 -- what a put gives the keys of its group
 pub put_key_shares : (w : World) (parts : Parts) (x : Context) (old new : List Tally) (g met : ℕ)
-    (ks vs keys : List ℕ) (table : ranges.AllKnown)
-    → All IsSmall parts.groups → keys ≡ ks → table ≡ x.known → x.met ≡ met
-    → g < length parts.groups → length ks ≡ length (group_at parts g).keys
-    → HasKeyShares parts old x
+    (ks vs keys : List ℕ) (table : ranges.AllKnown) → All IsSmall parts.groups → keys ≡ ks
+    → table ≡ x.known → x.met ≡ met → g < length parts.groups
+    → length ks ≡ length (group_at parts g).keys → HasKeyShares parts old x
     → ((k : ℕ) (ss : List Share) → k < length keys → IsTallyAt old (8 * g + k) ss
     → IsTallyAt new (8 * g + k) (known_share met (slice_index_or (map table keys) k None) ∷ ss))
     → ((p : ℕ) (t : Tally) → (p < 8 * g) ⊎ (8 * g + length keys ≤ p)

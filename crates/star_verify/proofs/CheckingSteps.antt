@@ -1,8 +1,7 @@
 -- What is first of the steps of a body, one step after another.
 use Rattle.std.proofs.Common.{◌≡◌, ◌+◌, ◌-◌, ◌≤◌, ◌<◌, ℕ, Bool, List, [], ◌∷◌, length, take, drop, get_or, Option, Some, None, Result, arith, refl, ap, sym, subst, ◌∙◌}
-use Rattle.star_verify.proofs.Common.{Act, AreFewAt, AreRecorded, AreRemainingSteps, AreStepsChecked, Code, Context, Each, GivenSteps, InEachContext, IsFirst, IsPositionOf, IsSized, KeepsContext, Op, Parts, Position, Reason, Refusal, Scan, Step, Stop, TableId, VerifierState, World, after_op, after_scan, after_step, at_end, at_place, before, code_of_steps, code_puts_to, code_size, first_reason, in_scan, op_reason, open_with, option_or, scan_first, size_of, step_first, step_size, turns_met, ◌||◌}
+use Rattle.star_verify.proofs.{Common.{Act, AreFewAt, AreRecorded, AreRemainingSteps, AreStepsChecked, Code, Context, Each, GivenSteps, InEachContext, IsFirst, IsPositionOf, IsSized, KeepsContext, Op, Parts, Position, Reason, Refusal, Scan, Step, Stop, TableId, VerifierState, World, after_op, after_scan, after_step, at_end, at_position, before, code_of_steps, code_puts_to, code_size, first_reason, in_scan, op_reason, open_with, option_or, scan_first, size_of, step_first, step_size, turns_met, ◌||◌}, Firsts.first_and_others}
 use Rattle.star_verify.specs.declared.refusal.Refusal.TheVariants as told
-use Rattle.star_verify.proofs.Firsts.{first_and_others}
 use Rattle.star_verify.proofs.Marks.{or_assoc as either_assoc}
 
 -- ---- the first step
@@ -41,7 +40,7 @@ module _ (w : World) (parts : Parts) (pending : ℕ → Bool) (x : Context) (at 
       → first_reason w parts pending x at (before step rest)
       ≡ option_or (step_first w parts pending x at step rest)
       (first_reason w parts pending (after_step w parts x step) (at + step_size step) rest)
-  first_step it rest = grind (arith, before, or_assoc, at_place)
+  first_step it rest = grind (arith, before, or_assoc, at_position)
 
   end_first : (step : Step) (rest : Code)
       → at_end w parts x (before step rest) ≡ at_end w parts (after_step w parts x step) rest
@@ -64,7 +63,7 @@ module _ (w : World) (parts : Parts) (pending : ℕ → Bool) (x : Context) (at 
       × KeepsContext parts state (after_step w parts x step)
   act_walked op is none kept =
       subst (λ s. (step_first w parts pending x at s rest ≡ None)
-      × KeepsContext parts state (after_step w parts x s)) (sym is) (ap (at_place at) none, kept)
+      × KeepsContext parts state (after_step w parts x s)) (sym is) (ap (at_position at) none, kept)
 
   pub scan_walked : (result : Result ℕ Refusal) (table : TableId) (r : ℕ) (body : Code)
       → step ≡ Scan table r body → AreStepsChecked result
@@ -182,6 +181,6 @@ all_checked given state at left none so_far w x pending facts keeps placed marke
 -- a scan whose register nothing refuses
 pub scan_entered : (result : Result ℕ Refusal) (at : ℕ) (reason : Option Reason)
     (first : Option (ℕ × Reason)) (A : Type 0) → reason ≡ None → AreStepsChecked result first A
-    → AreStepsChecked result (option_or (at_place at reason) first) A
+    → AreStepsChecked result (option_or (at_position at reason) first) A
 scan_entered result at reason first A none h =
-    subst (λ o. AreStepsChecked result (option_or (at_place at o) first) A) (sym none) h
+    subst (λ o. AreStepsChecked result (option_or (at_position at o) first) A) (sym none) h

@@ -1,7 +1,6 @@
 -- Groups that are marked, one after another.
-use Rattle.std.proofs.Common.{◌≡◌, ◌<◌, ℕ, Bool, true, false, List, length, get_or, ap, sym, ◌∙◌, ⊎_elim, refl, arith}
+use Rattle.std.proofs.{Common.{◌≡◌, ◌<◌, ℕ, Bool, true, false, List, length, get_or, ap, sym, ◌∙◌, ⊎_elim, refl, arith}, lemmas.Grind.common_steps}
 use Rattle.star_verify.proofs.Common.{get_or-set_other, get_or-set_same, nat_eq, slice_set, ◌||◌}
-use Rattle.std.proofs.lemmas.Grind.{common_steps}
 
 pub or_none : (a : Bool) → a || false ≡ a
 or_none true = refl

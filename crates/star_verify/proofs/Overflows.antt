@@ -1,8 +1,7 @@
 -- What arithmetic makes of two registers, and where it leaves 64 bits.
-use Rattle.std.proofs.Common.{◌≡◌, Option, Some, None, Result, ap, arith}
+use Rattle.std.proofs.{Common.{◌≡◌, Option, Some, None, Result, ap, arith}, lemmas.Int.ints}
 use Rattle.star_verify.proofs.Common.{Beyond, FitsI64, Known, MatchResult, Overflow, Range, World, corner_range, fits_i64_fits, not, overflow_of, reach_view, reached, refuses, ℤ}
 use Rattle.star_safety.specs.Ranges as ranges
-use Rattle.std.proofs.lemmas.Int.{ints}
 
 module _ (w : World) (r : Range) (reach : ranges.Reach) where
   pub fitting : FitsI64 r → overflow_of w (ranges.KnownNumber r reach None) ≡ None

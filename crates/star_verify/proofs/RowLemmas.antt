@@ -1,8 +1,6 @@
 -- The rows of all groupings, key by key.
-use Rattle.std.proofs.Common.{◌≡◌, ℕ, zero, suc, ◌+◌, ◌*◌, ◌-◌, ◌^◌, ◌≤◌, ◌<◌, Bool, true, false, List, [], ◌∷◌, Option, Some, None, length, map, refl, ap, ◌∙◌, arith, inl, inr, ⊎_elim}
+use Rattle.std.{proofs.Common.{◌≡◌, ℕ, zero, suc, ◌+◌, ◌*◌, ◌-◌, ◌^◌, ◌≤◌, ◌<◌, Bool, true, false, List, [], ◌∷◌, Option, Some, None, length, map, refl, ap, ◌∙◌, arith, inl, inr, ⊎_elim}, specs.Prelude.filter, proofs.lemmas.Grind.common_steps}
 use Rattle.star_verify.proofs.Common.{AgreeUpTo, Cube, MayHide, Parts, Plain, Rollup, Shape, World, filter-append, group_at, grouping_goes_on, groupings, if◌then◌else◌, ints, is_grouping, is_none, leb-false, lesser, list_all, lists_of, masks, may_hide, may_show, most_report_rows, mul-le-mul_left, mul_assoc, nat_le, rows_behind, rows_of_grouping, rows_of_groupings, rows_of_rest, sum_by, sum_by-append, sum_by-cons, unsigned_abs, width, ℤ, ◌-ℤ◌, ◌≤ℤ◌}
-use Rattle.std.specs.Prelude.{filter}
-use Rattle.std.proofs.lemmas.Grind.{common_steps}
 
 -- ---- the width of a range
 

@@ -1,8 +1,6 @@
 -- Registers that are written.
-use Rattle.std.proofs.Common.{◌≡◌, ◌<◌, ℕ, Bool, true, false, List, length, ⊎_elim, refl, arith}
-use Rattle.star_verify.proofs.Common.{flag_at, get_or-set_other, get_or-set_same, nat_eq, slice_set, ◌||◌}
-use Rattle.star_verify.proofs.Marks.{or_none}
-use Rattle.std.proofs.lemmas.Grind.{common_steps}
+use Rattle.std.proofs.{Common.{◌≡◌, ◌<◌, ℕ, Bool, true, false, List, length, ⊎_elim, refl, arith}, lemmas.Grind.common_steps}
+use Rattle.star_verify.proofs.{Common.{flag_at, get_or-set_other, get_or-set_same, nat_eq, slice_set, ◌||◌}, Marks.or_none}
 
 or_all : (a : Bool) → a || true ≡ true
 or_all true = refl

@@ -9,4 +9,4 @@ refusal_text (TooCostly visits) = codes "refused 71 TooCostly visits " ++ decima
 refusal_text (Refused at reason) =
     codes "refused " ++ (reason_text reason
     ++ (codes " at " ++ (decimal at ++ bounds_text reason)))
-refusal_text (BadShow place) = codes "refused 70 BadShow at " ++ decimal place
+refusal_text (BadShow index) = codes "refused 70 BadShow at " ++ decimal index

@@ -10,7 +10,7 @@ abbrev pub refusal_view : Refusal → Option admissible.Refusal
 refusal_view told.OutOfMemory = None
 refusal_view (told.TooCostly visits) = Some (admissible.TooCostly visits)
 refusal_view (told.Refused at reason) = Some (admissible.Refused (at, reason))
-refusal_view (told.BadShow place) = Some (admissible.BadShow place)
+refusal_view (told.BadShow index) = Some (admissible.BadShow index)
 
 -- Ok without a reason, otherwise the reason
 abbrev pub IsReason : Result (Unit {0}) Reason → Option Reason → Type 0

@@ -4,8 +4,7 @@ ghost use Rattle.std.specs.Prelude.{◌≡◌, ◌≤◌, ◌^◌, IfOk, MatchRe
 ghost use Rattle.star_schema.specs.Sizes.{size_of};
 ghost use Rattle.star_program.specs.{Limits.IsWithinLimits, World.World};
 ghost use Rattle.star_safety.specs.{Contexts.at_end, Contexts.at_first, Private.Forward.first_reason, Private.Forward.none_open};
-ghost use Rattle.star_verify.specs.Private.CheckResults.{AreFewAt, IsChecked, IsFirst, IsSized, KeepsContext};
-ghost use Rattle.star_verify.specs.{Facts.AreFacts, Private.Kept.HasKeyShares};
+ghost use Rattle.star_verify.specs.{Private.CheckResults.{AreFewAt, IsChecked, IsFirst, IsSized, KeepsContext}, Facts.AreFacts, Private.Kept.HasKeyShares};
 ghost use Rattle.star_safety.specs.Quote as spec;
 
 use crate::facts::Facts;
@@ -44,11 +43,9 @@ fn check_instructions(alloc: Global, parts: &Parts, facts: &Facts) -> Result<Vec
     requires quote { spec.quote (size_of facts.now.sizes) parts.now ≤ 10 ^ 15 }
     ensures len { IfOk result (λ keys. length keys.items ≡ 64) }
     ensures first { (w : World) → AreFacts w facts.now
-        → MatchResult result
-        (λ keys. (first_reason w parts.now none_open at_first 1 parts.now.body ≡ None)
-        × HasKeyShares parts.now keys.items (at_end w parts.now at_first parts.now.body))
-        (λ refusal. IsFirst refusal
-        (first_reason w parts.now none_open at_first 1 parts.now.body)) }
+        → MatchResult result (λ keys. (first_reason w parts.now none_open at_first 1 parts.now.body
+        ≡ None) × HasKeyShares parts.now keys.items (at_end w parts.now at_first parts.now.body))
+        (λ refusal. IsFirst refusal (first_reason w parts.now none_open at_first 1 parts.now.body)) }
 {
     let mut state = empty_state(alloc, parts)?;
     let pending = [false; MOST_GROUPS];
@@ -84,8 +81,7 @@ pub(crate) fn check(
     facts: &Facts,
     limits: Limits,
 ) -> Result<Accepted, Refusal>
-    ensures { (w : World) → AreFacts w facts.now
-        → IsChecked result w limits.visits program.now }
+    ensures { (w : World) → AreFacts w facts.now → IsChecked result w limits.visits program.now }
 {
     let visits = quote(program, &facts.sizes);
     if visits > u128::from(limits.visits) {
@@ -95,6 +91,6 @@ pub(crate) fn check(
     let keys = check_instructions(alloc, parts, facts)?;
     match misnamed_line(parts) {
         None => Ok(Accepted { visits, keys }),
-        Some(place) => Err(Refusal::BadShow { place }),
+        Some(index) => Err(Refusal::BadShow { index }),
     }
 }

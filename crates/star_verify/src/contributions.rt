@@ -1,7 +1,6 @@
 // What a put contributes to the aggregates and the keys of its group.
 
-ghost use Rattle.std.specs.Prelude.{◌≡◌, ◌+◌, ◌<◌, ◌≤◌, ◌∷◌, ◌⊎◌, ℕ, List, None, length, map, slice_index_or};
-ghost use Rattle.std.specs.{Option.option_map};
+ghost use Rattle.std.specs.{Prelude.{◌≡◌, ◌+◌, ◌<◌, ◌≤◌, ◌∷◌, ◌⊎◌, ℕ, List, None, length, map, slice_index_or}, Option.option_map};
 ghost use Rattle.star_schema.specs.declared.group.Aggregate.{Aggregate as Kind};
 ghost use Rattle.star_program.specs.Faults.{value_count};
 ghost use Rattle.star_safety.specs.{Contexts.known_share, Tallies.Share};

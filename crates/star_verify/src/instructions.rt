@@ -1,12 +1,10 @@
 // The check of one instruction, and the verifier state after it.
 
-ghost use Rattle.std.specs.Prelude.{◌≡◌, ◌*◌, ◌+◌, ◌<◌, ◌≤◌, ◌||◌, ◌^◌, ℕ, Bool, IfOk, List, Option, None, Some, length, nat_eq};
-ghost use Rattle.std.specs.{Option.option_map, Option.option_or};
+ghost use Rattle.std.specs.{Prelude.{◌≡◌, ◌*◌, ◌+◌, ◌<◌, ◌≤◌, ◌||◌, ◌^◌, ℕ, Bool, IfOk, List, Option, None, Some, length, nat_eq}, Option.{option_map, option_or}};
 ghost use Rattle.star_program.specs.Faults.{fault_of, group_at, place_fault, target_of, value_count};
 ghost use Rattle.star_program.specs.{CodeOfSteps.code_of_steps, declared.fault.Fault.Fault as Wrong, Limits.IsWithinLimits, World.World};
 ghost use Rattle.star_safety.specs.{Contexts.Context, Contexts.after_op, Private.Forward.open_with, Ranges.kinds_known, declared.reason.Reason.TheVariants.Faulty, Refusals.op_reason, Refusals.range_reason, Refusals.source_reason, Refusals.target_again};
-ghost use Rattle.star_verify.specs.Private.CheckResults.{AreFewAt, InEachContext, IsFirst, IsReady, IsSized, KeepsContext, HasReason};
-ghost use Rattle.star_verify.specs.{Facts.AreFacts, Private.Kept.AreTalliesFew, Private.Kept.HasKeyShares, Private.Kept.HasShares, Private.Kept.flag_at, Private.Made.beyond_view, Private.Views.known_in, Views.IsReason};
+ghost use Rattle.star_verify.specs.{Private.CheckResults.{AreFewAt, InEachContext, IsFirst, IsReady, IsSized, KeepsContext, HasReason}, Facts.AreFacts, Private.Kept.{AreTalliesFew, HasKeyShares, HasShares, flag_at}, Private.Made.beyond_view, Private.Views.known_in, Views.IsReason};
 ghost use Rattle.star_program.specs.declared.op.Op.TheVariants as op;
 
 use crate::contributions::{contribute, contribute_keys};
@@ -103,9 +101,8 @@ fn put(
     requires met { position.met ≤ 10 ^ 15 }
     requires tallies { length tallies.old ≡ 64 }
     requires few { AreTalliesFew tallies.old (position.at * 10 ^ 15) }
-    ensures shares { (w : World) (x : Context) (keys : List ℕ)
-        → known_in registers.now ≡ x.known → x.met ≡ position.met
-        → HasShares input.now.parts.now tallies.old x
+    ensures shares { (w : World) (x : Context) (keys : List ℕ) → known_in registers.now ≡ x.known
+        → x.met ≡ position.met → HasShares input.now.parts.now tallies.old x
         → HasShares input.now.parts.now tallies.new
         (after_op w input.now.parts.now x (op.Put group keys values.now)) }
     ensures few { AreTalliesFew tallies.new ((position.at + 1) * 10 ^ 15) }
@@ -138,11 +135,10 @@ fn put_keys(
     requires met { position.met ≤ 10 ^ 15 }
     requires tallies { length tallies.old ≡ 64 }
     requires few { AreTalliesFew tallies.old (position.at * 10 ^ 15) }
-    ensures given { (w : World) (x : Context) (values : List ℕ)
-        → known_in registers.now ≡ x.known → x.met ≡ position.met
-        → HasKeyShares parts.now tallies.old x
-        → HasKeyShares parts.now tallies.new
-        (after_op w parts.now x (op.Put group keys.now values)) }
+    ensures given { (w : World) (x : Context) (values : List ℕ) → known_in registers.now ≡ x.known
+        → x.met ≡ position.met → HasKeyShares parts.now tallies.old x
+        → HasKeyShares parts.now tallies.new (after_op w parts.now x
+        (op.Put group keys.now values)) }
     ensures few { AreTalliesFew tallies.new ((position.at + 1) * 10 ^ 15) }
     ensures len { length tallies.new ≡ length tallies.old }
 {

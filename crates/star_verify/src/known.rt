@@ -1,7 +1,6 @@
 // Register facts: what is known about a register before a run.
 
-ghost use Rattle.std.specs.Prelude.{◌≡◌, ◌↔◌, None, Some, IfOk, IsOk, MatchResult};
-ghost use Rattle.std.specs.{Option.option_map};
+ghost use Rattle.std.specs.{Prelude.{◌≡◌, ◌↔◌, None, Some, IfOk, IsOk, MatchResult}, Option.option_map};
 ghost use Rattle.star_interval.specs.{Interval.bounds_of, Interval.range_of, Range.FitsI64};
 ghost use Rattle.star_program.specs.World.{World};
 ghost use Rattle.star_verify.specs.Private.Views.{known_view, reach_view};
@@ -83,9 +82,8 @@ pub(crate) fn computed(range: Result<Interval, Wide>, reach: Reach) -> Result<Kn
         ≡ ranges.KnownNumber (bounds_of range) (reach_view reach) None) }
     ensures overflow { (w : World) → MatchResult result
         (λ _. refusals.overflow_of w (ranges.KnownNumber (bounds_of range) (reach_view reach) None)
-        ≡ None)
-        (λ beyond. refusals.overflow_of w
-        (ranges.KnownNumber (bounds_of range) (reach_view reach) None)
+        ≡ None) (λ beyond. refusals.overflow_of w (ranges.KnownNumber (bounds_of range)
+        (reach_view reach) None)
         ≡ Some (reason.Overflow beyond.range.low beyond.range.high
         (refusals.reached w (reach_view beyond.reach)))) }
 {
@@ -106,14 +104,12 @@ pub(crate) fn answer(
     right: Option<Known>,
 ) -> Result<Known, Beyond>
     ensures made { IfOk result (λ known. known_view known
-        ≡ ranges.answer_known operator (option_map known_view left)
-        (option_map known_view right)) }
+        ≡ ranges.answer_known operator (option_map known_view left) (option_map known_view right)) }
     ensures overflow { (w : World) → MatchResult result
-        (λ _. refusals.overflow_of w
-        (ranges.answer_known operator (option_map known_view left) (option_map known_view right))
-        ≡ None)
-        (λ beyond. refusals.overflow_of w
-        (ranges.answer_known operator (option_map known_view left) (option_map known_view right))
+        (λ _. refusals.overflow_of w (ranges.answer_known operator (option_map known_view left)
+        (option_map known_view right)) ≡ None)
+        (λ beyond. refusals.overflow_of w (ranges.answer_known operator (option_map known_view left)
+        (option_map known_view right))
         ≡ Some (reason.Overflow beyond.range.low beyond.range.high
         (refusals.reached w (reach_view beyond.reach)))) }
 {

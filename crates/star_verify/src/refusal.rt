@@ -22,7 +22,7 @@ pub enum Refusal {
     /// A line of the report names something that is not declared. The position is 0 if the group is
     /// not declared or nothing is shown, otherwise the number of the line, from 1, among the show
     /// lines followed by the sort lines.
-    BadShow { place: u8 },
+    BadShow { index: u8 },
 }
 
 impl From<AllocError> for Refusal {
@@ -52,7 +52,7 @@ impl fmt::Display for Refusal {
                 write!(f, "refused {reason} at {at}")?;
                 reason.write_bounds(f)
             }
-            Refusal::BadShow { place } => write!(f, "refused 70 BadShow at {place}"),
+            Refusal::BadShow { index } => write!(f, "refused 70 BadShow at {index}"),
         }
     }
 }

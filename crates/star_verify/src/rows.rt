@@ -1,7 +1,6 @@
 // The maximum number of rows of a program's report.
 
-ghost use Rattle.std.specs.Prelude.{◌≡◌, ◌≤◌, ◌<◌, ◌*◌, ◌+◌, ◌^◌, ℕ, List, [], true, length, if◌then◌else◌};
-ghost use Rattle.std.specs.{Option.option_map};
+ghost use Rattle.std.specs.{Prelude.{◌≡◌, ◌≤◌, ◌<◌, ◌*◌, ◌+◌, ◌^◌, ℕ, List, [], true, length, if◌then◌else◌}, Option.option_map};
 ghost use Rattle.star_interval.specs.Interval.{range_of};
 ghost use Rattle.star_program.specs.Limits.{IsWithinLimits};
 ghost use Rattle.star_world.specs.WorldOf.{world_of};

@@ -4,8 +4,7 @@ ghost use Rattle.std.specs.Prelude.{◌≡◌, ◌*◌, ◌+◌, ◌<◌, ◌≤
 ghost use Rattle.star_schema.specs.Sizes.{size_of};
 ghost use Rattle.star_program.specs.{Code.code_size, declared.program.Parts.Parts as Program, World.World, CodeOfSteps.before, CodeOfSteps.code_of_steps};
 ghost use Rattle.star_safety.specs.{Contexts.Context, Contexts.after_scan, Contexts.at_end, Contexts.in_scan, Private.Forward.first_reason, Quote.turns_met, Refusals.scan_reason};
-ghost use Rattle.star_verify.specs.Private.CheckResults.{AreFewAt, AreRecorded, InEachContext, IsReady, IsSized, AreStepsChecked, KeepsContext, scan_first};
-ghost use Rattle.star_verify.specs.{Private.Kept.flag_at, Private.StepResults.after_step, Private.StepResults.step_first, Private.StepResults.step_size, Views.IsReason};
+ghost use Rattle.star_verify.specs.{Private.CheckResults.{AreFewAt, AreRecorded, InEachContext, IsReady, IsSized, AreStepsChecked, KeepsContext, scan_first}, Private.Kept.flag_at, Private.StepResults.{after_step, step_first, step_size}, Views.IsReason};
 
 use crate::input::CheckInput;
 use crate::instructions::{Position, VerifierState, is_written, note};

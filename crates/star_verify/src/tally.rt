@@ -1,7 +1,6 @@
 // The possible sums over the updates of a group.
 
-ghost use Rattle.std.specs.Prelude.{◌≡◌, ◌≤◌, ◌+◌, ◌^◌, ◌∷◌, [], List, ◌+ℤ◌, ◌≤ℤ◌, pos};
-ghost use Rattle.std.specs.{Option.option_map};
+ghost use Rattle.std.specs.{Prelude.{◌≡◌, ◌≤◌, ◌+◌, ◌^◌, ◌∷◌, [], List, ◌+ℤ◌, ◌≤ℤ◌, pos}, Option.option_map};
 ghost use Rattle.star_interval.specs.Interval.{range_of};
 ghost use Rattle.star_safety.specs.Tallies.{Share, hull_with};
 ghost use Rattle.star_verify.specs.{Private.Bounded.IsBounded, Private.Views.IsTally, Private.Views.reach_view};
@@ -72,7 +71,8 @@ impl Tally {
             → IsTally result (record {
               met = times;
               range = range_of range;
-              reach = reach_view reach;
+              reach =
+                  reach_view reach;
             } ∷ ss) }
         ensures many { result.many ≡ self.many + times }
         ensures bounded { IsBounded result }

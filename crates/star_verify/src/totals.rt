@@ -1,7 +1,6 @@
 // The facts of a read.
 
-ghost use Rattle.std.specs.Prelude.{◌≡◌, ◌<◌, List, length, slice_index_or};
-ghost use Rattle.std.specs.{Option.option_map};
+ghost use Rattle.std.specs.{Prelude.{◌≡◌, ◌<◌, List, length, slice_index_or}, Option.option_map};
 ghost use Rattle.star_interval.specs.{Interval.wide_range_of, Range.only};
 ghost use Rattle.star_program.specs.World.{World};
 ghost use Rattle.star_safety.specs.Tallies.{Share, aggregate_range, hull_with, reach_of, read_range};

@@ -34,11 +34,10 @@ pub struct Verified<'c> {
 }
 
 impl<'c> Model for Verified<'c> {
-    ghost use Rattle.std.specs.Prelude.{◌≡◌};
+    ghost use Rattle.std.specs.{Prelude.◌≡◌, Coded.codes};
     ghost use Rattle.star_safety.specs.MostRows as bound;
     ghost use Rattle.star_safety.specs.Quote as spec;
     ghost use Rattle.star_world.specs.WorldOf.{world_of};
-    ghost use Rattle.std.specs.Coded.{codes};
     ghost use Rattle.star_program.specs.contracts.program.Parts.{the_row};
     ghost use Rattle.star_verify.specs.Checked.{Checked, IsVerified};
 
@@ -137,10 +136,9 @@ pub fn verify<'c>(
         (λ verified. (verified.database ≡ catalogue.now) × (verified.program ≡ program)) }
     ensures accepted { OnOk result
         (first_refusal (world_of catalogue.now) limits.visits program ≡ None) }
-    ensures refused { IfErr result
-        (λ refused. UnlessMemory OutOfMemory refused.refusal
-        (first_refusal (world_of catalogue.now) limits.visits program
-        ≡ refusal_view refused.refusal)) }
+    ensures refused { IfErr result (λ refused.
+        UnlessMemory OutOfMemory refused.refusal (first_refusal
+        (world_of catalogue.now) limits.visits program ≡ refusal_view refused.refusal)) }
     ensures handed_back { IfErr result (λ refused. refused.program ≡ program) }
 {
     admissible_programs_within_the_limit_are_not_refused();

@@ -1,9 +1,6 @@
 -- Limits of trials, and arguments that are separated one by one.
-use Rattle.std.proofs.Common.{◌+◌, Global, String, add-one, drop-cons, get_or, map, string_bytes, ◌≡◌, ◌∙◌, ◌<◌, ◌≤◌, ◌++◌, ◌&&◌, ap, sym, subst, ℕ, List, [], ◌∷◌, length, Bool, true, false, Option, Some, None, if◌then◌else◌, drop, append-nil, append_assoc, refl, nat_lt, tests, rules}
-use Rattle.std.proofs.{lemmas.List.drop_all}
-use Rattle.std.specs.{Borrow.Bor, Option.option_map, Char.digit_value, List.list_all, Str.Parse.AllDigits, Str.Parse.IsNumeral, Str.Parse.digits_value, Str.Parse.without_leading_plus}
-use Rattle.star_words.specs.Private.Parting.{AreArguments, IsAdded, all_operands, all_options, texts}
-use Rattle.star_words.specs.{Requests.Word, Requests.limit_of, Requests.part_of, Requests.parts_of, Requests.operands_from, Requests.options_from, declared.request.Arguments.Arguments}
+use Rattle.std.{proofs.Common.{◌+◌, Global, String, add-one, drop-cons, get_or, map, string_bytes, ◌≡◌, ◌∙◌, ◌<◌, ◌≤◌, ◌++◌, ◌&&◌, ap, sym, subst, ℕ, List, [], ◌∷◌, length, Bool, true, false, Option, Some, None, if◌then◌else◌, drop, append-nil, append_assoc, refl, nat_lt, tests, rules}, proofs.lemmas.List.drop_all, specs.Borrow.Bor, specs.Option.option_map, specs.Char.digit_value, specs.List.list_all, specs.Str.Parse.{AllDigits, IsNumeral, digits_value, without_leading_plus}}
+use Rattle.star_words.specs.{Private.Parting.{AreArguments, IsAdded, all_operands, all_options, texts}, Requests.{Word, limit_of, part_of, parts_of, operands_from, options_from}, declared.request.Arguments.Arguments}
 
 -- ---- limits
 
@@ -129,8 +126,7 @@ ArePartsSoFar words i some =
     option_map (λ more. some ++ more) (parts_of (texts (drop i words))) ≡ parts_of (texts words)
 
 next_text : (words : List (Bor Word)) (i : ℕ) (word : Bor Word) → i < length words
-    → word ≡ get_or words i word
-    → texts (drop i words) ≡ word.now ∷ texts (drop (i + 1) words)
+    → word ≡ get_or words i word → texts (drop i words) ≡ word.now ∷ texts (drop (i + 1) words)
 next_text words i word less is = rw (add-one, drop-cons words i word, ← is) refl
 
 none_before : (rest : Option (List ℕ)) → option_map (λ more. [] ++ more) rest ≡ rest
@@ -143,8 +139,7 @@ one_before : (some : List ℕ) (part : ℕ) (rest : Option (List ℕ))
 one_before some part None = refl
 one_before some part (Some more) = ap Some (append_assoc some (part ∷ []) more)
 
-pub parts_start : (words : List (Bor Word)) (some : List ℕ) → some ≡ []
-    → ArePartsSoFar words 0 some
+pub parts_start : (words : List (Bor Word)) (some : List ℕ) → some ≡ [] → ArePartsSoFar words 0 some
 parts_start words some none = rw none (none_before (parts_of (texts words)))
 
 pub parts_more : (words : List (Bor Word)) (i : ℕ) (word : Bor Word) (some : List ℕ) (part : ℕ)

@@ -1,14 +1,11 @@
 -- What arguments ask for, one by one; that no folder's name is empty; and what is said of arguments
 -- that ask for nothing.
-use Rattle.std.proofs.Common.{◌≡◌, [], ◌∷◌, Some, None, true, false, refl}
-use Rattle.std.specs.{Borrow.Bor, Prelude.List, Prelude.codes}
+use Rattle.std.{proofs.Common.{◌≡◌, [], ◌∷◌, Some, None, true, false, refl}, specs.Borrow.Bor, specs.Prelude.{List, codes}}
 use Rattle.clap.specs.{Values.kind_of, declared.error.Error.Error, declared.error.kind.ErrorKind.TheVariants.DisplayHelp, declared.error.kind.ErrorKind.TheVariants.DisplayVersion, declared.error.kind.ErrorKind.TheVariants.UnknownArgument}
 use Rattle.clap.specs.{declared.error.kind.ErrorKind.TheVariants.OutOfMemory as NoMemory}
 use Rattle.star_common.proofs.Tables.{Gives}
 use Rattle.star_schema.specs.{Most.most_rows, declared.limits.Limits.Limits}
-use Rattle.star_words.specs.Requests.{Asked, HasMostRows, IsWordsFault, Word, asked, bench, check, exec, explain, limit_of, may_ask_help, names_folders, partial, query, quote, reports, sample, session, trial}
-use Rattle.star_words.specs.{Faults.fault_of_kind, Faults.words_fault_status, Faults.words_fault_text, Faults.words_status, declared.fault.WordsFault.TheVariants.EmptyFolder, declared.fault.WordsFault.TheVariants.NoCommand, declared.fault.WordsFault.TheVariants.NoTarget, declared.fault.WordsFault.TheVariants.NotText}
-use Rattle.star_words.specs.{declared.fault.WordsFault.TheVariants.OutOfMemory, declared.request.Request.TheVariants.Answer, declared.request.Task.TheVariants.Trial}
+use Rattle.star_words.specs.{Requests.{Asked, HasMostRows, IsWordsFault, Word, asked, bench, check, exec, explain, limit_of, may_ask_help, names_folders, partial, query, quote, reports, sample, session, trial}, Faults.{fault_of_kind, words_fault_status, words_fault_text, words_status}, declared.fault.WordsFault.TheVariants.{EmptyFolder, NoCommand, NoTarget, NotText, OutOfMemory}, declared.request.Request.TheVariants.Answer, declared.request.Task.TheVariants.Trial}
 
 -- ---- the arguments of each command, in order
 
@@ -72,12 +69,11 @@ limits : Gives limit_of (
 unfolding limit_of
 limits = refl
 
-folders : Gives names_folders (
-    (sample, true) ∷ (explain [], true) ∷ (check a, true) ∷ (check [], false) ∷ (session [], false)
-    ∷ (query a [], true) ∷ (query [] a, false) ∷ (trial [] a 1, false)
-    ∷ (partial a b [] None, true) ∷ (partial [] b [] None, false)
-    ∷ (partial a b [] (Some []), false) ∷ (reports a b [] false, true) ∷ (reports [] b [] false, false) ∷ (reports a [] [] true, false)
-    ∷ [])
+folders : Gives names_folders ((sample, true) ∷ (explain [], true) ∷ (check a, true)
+    ∷ (check [], false) ∷ (session [], false) ∷ (query a [], true) ∷ (query [] a, false)
+    ∷ (trial [] a 1, false) ∷ (partial a b [] None, true) ∷ (partial [] b [] None, false)
+    ∷ (partial a b [] (Some []), false) ∷ (reports a b [] false, true)
+    ∷ (reports [] b [] false, false) ∷ (reports a [] [] true, false) ∷ [])
 folders = refl
 
 helps : Gives may_ask_help (
@@ -90,7 +86,8 @@ module _ (words : List Word) where
   faults : (IsWordsFault words NotText ≡ ⊥) × (IsWordsFault words OutOfMemory ≡ Unit {0})
       × (IsWordsFault words EmptyFolder
       ≡ ((it : Asked) × (asked words ≡ Some it) × (names_folders it ≡ false)))
-      × (IsWordsFault words NoCommand ≡ (words_fault_status NoCommand ≡ 0 → may_ask_help words ≡ true))
+      × (IsWordsFault words NoCommand
+      ≡ (words_fault_status NoCommand ≡ 0 → may_ask_help words ≡ true))
   faults = (refl, refl, refl, refl)
 
 -- no argument bounds the rows of a trial's tables

@@ -1,8 +1,7 @@
 -- The errors of arguments that make no request, and the exit status.
 use Rattle.std.specs.Prelude.{ℕ, List, Option, Some, None, codes}
 use Rattle.clap.specs.{Values.kind_of, declared.error.Error.Error, declared.error.kind.ErrorKind.ErrorKind, declared.error.kind.ErrorKind.TheVariants.DisplayHelp, declared.error.kind.ErrorKind.TheVariants.DisplayVersion}
-use Rattle.star_words.specs.declared.fault.WordsFault.TheVariants.{Told, NotText, EmptyFolder, NoTarget, NoCommand, OutOfMemory}
-use Rattle.star_words.specs.{declared.fault.WordsFault.WordsFault}
+use Rattle.star_words.specs.declared.fault.WordsFault.{TheVariants.{Told, NotText, EmptyFolder, NoTarget, NoCommand, OutOfMemory}, WordsFault}
 use Rattle.clap.specs.declared.error.kind.ErrorKind.TheVariants as kinds
 
 -- an error of the parser of the words: it too may want memory

@@ -1,9 +1,7 @@
 -- The requests of command lines, argument by argument.
-use Rattle.std.specs.Prelude.{◌≡◌, ⊤, ◌&&◌, ◌||◌, ◌==◌, ℕ, Bool, true, false, List, [], ◌∷◌, Option, Some, None, if◌then◌else◌, codes, is_some, length, map, nat_le, nat_lt, slice_index}
-use Rattle.std.specs.{Char.digit_value, List.list_all, Option.option_and_then, Option.option_map, Option.option_to_list, Str.bytes_eq, Str.Parse.digits_value, Str.Parse.without_leading_plus}
+use Rattle.std.specs.{Prelude.{◌≡◌, ⊤, ◌&&◌, ◌||◌, ◌==◌, ℕ, Bool, true, false, List, [], ◌∷◌, Option, Some, None, if◌then◌else◌, codes, is_some, length, map, nat_le, nat_lt, slice_index}, Char.digit_value, List.list_all, Option.{option_and_then, option_map, option_to_list}, Str.bytes_eq, Str.Parse.{digits_value, without_leading_plus}}
 use Rattle.star_schema.specs.Most.{most_rows}
-use Rattle.star_words.specs.{Faults.words_fault_status, declared.fault.WordsFault.WordsFault, declared.fault.WordsFault.TheVariants.EmptyFolder, declared.fault.WordsFault.TheVariants.NotText, declared.fault.WordsFault.TheVariants.OutOfMemory, declared.request.Request.Request}
-use Rattle.star_words.specs.{declared.request.Task.Task}
+use Rattle.star_words.specs.{Faults.words_fault_status, declared.fault.WordsFault.WordsFault, declared.fault.WordsFault.TheVariants.{EmptyFolder, NotText, OutOfMemory}, declared.request.Request.Request, declared.request.Task.Task}
 use Rattle.star_words.specs.declared.request.Request.TheVariants as request
 use Rattle.star_words.specs.declared.request.Task.TheVariants as task
 

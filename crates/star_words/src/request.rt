@@ -1,9 +1,8 @@
 // The requests of command lines.
 
 ghost use Rattle.std.specs.Prelude.{◌≡◌, ◌∷◌, IfOk, MatchResult, OnOk, map, option_map, string_bytes};
-ghost use Rattle.star_words.specs.Private.Parting.{AreArguments, IsAdded, IsLimited, IsMade, texts};
+ghost use Rattle.star_words.specs.{Private.Parting.{AreArguments, IsAdded, IsLimited, IsMade, texts}, Requests.{IsRequest, IsWordsFault, request_asked}};
 ghost use Rattle.star_words.specs.Requests as spec;
-ghost use Rattle.star_words.specs.Requests.{IsRequest, IsWordsFault, request_asked};
 
 use crate::fault::WordsFault;
 use crate::refusal::parsed;

@@ -1,7 +1,5 @@
--- The first place of a key is each place that it has, where no two are one.
-use Rattle.std.proofs.Common.{◌≡◌, ◌≢◌, ◌<◌, ◌+◌, ◌↔◌, ℕ, zero, suc, ℤ, Bool, true, false, true≢false, cond, List, [], ◌∷◌, Some, None, Option, length, arith, ap, sym, subst, ◌∙◌, refl, slice_get, ⊎_elim}
-use Rattle.std.proofs.{lemmas.Bool.cases_lt, lemmas.Bool.Decides.Decides-int_eq, lemmas.Cmp.int_eq_equiv, lemmas.Option.get_or_from_slice_get, lemmas.Option.same_Some, lemmas.Option.slice_get_within}
-use Rattle.std.specs.{Prelude.◌&&◌, Prelude.AllPairs, Prelude.IfSome, List.position_from, Ordering.int_eq}
+-- The first position of a key is each position that it has, where no two are one.
+use Rattle.std.{proofs.Common.{◌≡◌, ◌≢◌, ◌<◌, ◌+◌, ◌↔◌, ℕ, zero, suc, ℤ, Bool, true, false, true≢false, cond, List, [], ◌∷◌, Some, None, Option, length, arith, ap, sym, subst, ◌∙◌, refl, slice_get, ⊎_elim}, proofs.lemmas.Bool.cases_lt, proofs.lemmas.Bool.Decides.Decides-int_eq, proofs.lemmas.Cmp.int_eq_equiv, proofs.lemmas.Option.{get_or_from_slice_get, same_Some, slice_get_within}, specs.Prelude.{◌&&◌, AllPairs, IfSome}, specs.List.position_from, specs.Ordering.int_eq}
 use Rattle.star_world.specs.WorldOf.{is_key}
 
 itself : (n : ℤ) → is_key n (n ∷ []) ≡ true
@@ -20,7 +18,7 @@ only_key n (x ∷ y ∷ rest) e = go (int_eq x n) refl
     go true same = absurd (true≢false (sym e ∙ rw same refl))
     go false differs = absurd (true≢false (sym e ∙ rw differs refl))
 
--- the answer is None where no key is the number, else a place of it, counted from i
+-- the answer is None where no key is the number, else a position of it, counted from i
 abbrev pub IsFound : ℤ → List (List ℤ) → ℕ → Option ℕ → Type 0
 IsFound n keys i None = (row : ℕ) → slice_get keys row ≢ Some (n ∷ [])
 IsFound n keys i (Some j) = (row : ℕ) × (j ≡ i + row) × (slice_get keys row ≡ Some (n ∷ []))
@@ -53,9 +51,9 @@ found_from n (key ∷ keys) i =
         (later n key keys i o e found)
 
 -- no key stands in two rows where no two are the same
-pub one_place : (keys : List (List ℤ)) (i j : ℕ) (k : List ℤ) → AllPairs (λ a b. a ≢ b) keys
+pub one_index : (keys : List (List ℤ)) (i j : ℕ) (k : List ℤ) → AllPairs (λ a b. a ≢ b) keys
     → slice_get keys i ≡ Some k → slice_get keys j ≡ Some k → i ≡ j
-one_place keys i j k apart at_i at_j =
+one_index keys i j k apart at_i at_j =
     let first = get_or_from_slice_get keys i k k at_i in
     let second = get_or_from_slice_get keys j k k at_j in
     ⊎_elim {C = i ≡ j}
@@ -64,7 +62,7 @@ one_place keys i j k apart at_i at_j =
     (λ after. absurd (apart j i k after (slice_get_within keys i k at_i) (second ∙ sym first)))
     (λ upto. omega (arith, from, upto)) (cases_lt j i)) (cases_lt i j)
 
--- an answer that is each place of a key is the first place
+-- an answer that is each position of a key is the first position
 pub is_position : (n : ℤ) (keys : List (List ℤ)) (o : Option ℕ)
     → ((row : ℕ) → (o ≡ Some row) ↔ (slice_get keys row ≡ Some (n ∷ [])))
     → o ≡ position_from (is_key n) 0 keys

@@ -1,13 +1,8 @@
 -- The world of sound rows is loaded.
-use Rattle.std.proofs.Common.{◌≡◌, ◌<◌, ◌≤◌, ℕ, ℤ, List, [], ◌∷◌, Some, None, Option, length, arith, ap, ◌∙◌, get_or}
-use Rattle.std.proofs.{lemmas.List.length-map, lemmas.List.Elements.Contains-get_or, lemmas.List.Sums.count_by-le-length, lemmas.Option.slice_get-get_or, lemmas.Option.slice_get_within}
-use Rattle.std.specs.{Prelude.Contains, Prelude.pos, Ordering.is_lt, Ordering.is_le}
-use Rattle.star_schema.specs.{Bounds.numbers_of, Bounds.numbers_at, Database.Database, Database.rows_in, Dictionary.text_cmp, Loadable.IsSound, Loadable.keys_of, Schema.table_of, Tables.Value, Texts.texts_of, Texts.texts_at, Columns.column_dictionary, Columns.column_numbers}
-use Rattle.star_schema.specs.{Columns.column_texts, declared.column.ColumnId.ColumnId, declared.table.TableId.TableId}
-use Rattle.star_schema.proofs.{Extremes.least_below, Extremes.greatest_above, TextPlaces.code_within}
+use Rattle.std.{proofs.Common.{◌≡◌, ◌<◌, ◌≤◌, ℕ, ℤ, List, [], ◌∷◌, Some, None, Option, length, arith, ap, ◌∙◌, get_or}, proofs.lemmas.List.length-map, proofs.lemmas.List.Elements.Contains-get_or, proofs.lemmas.List.Sums.count_by-le-length, proofs.lemmas.Option.{slice_get-get_or, slice_get_within}, specs.Prelude.{Contains, pos}, specs.Ordering.{is_lt, is_le}}
+use Rattle.star_schema.{specs.Bounds.{numbers_of, numbers_at}, specs.Database.{Database, rows_in}, specs.Dictionary.text_cmp, specs.Loadable.{IsSound, keys_of}, specs.Schema.table_of, specs.Tables.Value, specs.Texts.{texts_of, texts_at}, specs.Columns.{column_dictionary, column_numbers, column_texts}, specs.declared.column.ColumnId.ColumnId, specs.declared.table.TableId.TableId, proofs.Extremes.{least_below, greatest_above}, proofs.TextIndexes.code_within}
 use Rattle.star_program.specs.{declared.op.Edge.Edge, declared.op.Edge.TheVariants.Low, declared.op.Edge.TheVariants.High, World.World, World.IsLoaded, World.IsRowNumberOf, World.edge_of}
-use Rattle.star_world.specs.WorldOf.{world_of}
-use Rattle.star_world.proofs.Found.{IsFound, found_from}
+use Rattle.star_world.{specs.WorldOf.world_of, proofs.Found.{IsFound, found_from}}
 
 -- a column of numbers has one for each row
 pub numbers_len : (c : ColumnId) (rows : List (List Value))
@@ -31,7 +26,7 @@ found_row w t n keys None len none has =
 found_row w t n keys (Some i) len (row, at, is) has =
     omega (arith, len, at, slice_get_within keys row (n ∷ []) is)
 
--- the code of a row's text is the place of one of the column's texts
+-- the code of a row's text is the position of one of the column's texts
 code_below : (database : Database) (c : ColumnId) (row : ℕ)
     → row < length (rows_in database (table_of c))
     → (world_of database).code c row < (world_of database).entries c

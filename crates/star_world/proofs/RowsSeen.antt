@@ -1,13 +1,7 @@
 -- The world of sound rows is what programs see of them.
-use Rattle.std.proofs.Common.{◌≡◌, ◌≢◌, ◌↔◌, ℕ, ℤ, pos, List, [], ◌∷◌, Some, None, Option, map, refl, sym, ap, ◌∙◌, arith}
-use Rattle.std.specs.Prelude.{AllPairs, Contains, nat_lt, slice_get, slice_index_or}
-use Rattle.std.specs.Option.{option_map}
-use Rattle.std.proofs.lemmas.Option.{get_or_from_slice_get, slice_get-map, slice_get_within}
-use Rattle.star_schema.specs.{Bounds.numbers_at, Bounds.numbers_of, Database.Database, Database.rows_in, Dictionary.low_in, Dictionary.high_in, Loadable.IsSound, Loadable.key_numbers, Loadable.keys_of, Loadable.number_at, Schema.key_of, Schema.table_of, Tables.Value, Columns.column_dictionary, Columns.column_numbers, Columns.column_texts}
-use Rattle.star_schema.specs.declared.{column.ColumnId.ColumnId, table.Key.TheVariants.One}
-use Rattle.star_schema.proofs.{Dictionaries.IsDictionary-dictionary_of, TextPlaces.has_code, TextPlaces.nat_lt-low_in, TextPlaces.nat_lt-high_in}
-use Rattle.star_world.specs.{RowsSeen.HasNumber, RowsSeen.HasText, RowsSeen.IsCodeOf, RowsSeen.IsWorldOf, WorldOf.world_of}
-use Rattle.star_world.proofs.{Found.IsFound, Found.found_from, Found.one_place, Loaded.loaded}
+use Rattle.std.{proofs.Common.{◌≡◌, ◌≢◌, ◌↔◌, ℕ, ℤ, pos, List, [], ◌∷◌, Some, None, Option, map, refl, sym, ap, ◌∙◌, arith}, specs.Prelude.{AllPairs, Contains, nat_lt, slice_get, slice_index_or}, specs.Option.option_map, proofs.lemmas.Option.{get_or_from_slice_get, slice_get-map, slice_get_within}}
+use Rattle.star_schema.{specs.Bounds.{numbers_at, numbers_of}, specs.Database.{Database, rows_in}, specs.Dictionary.{low_in, high_in}, specs.Loadable.{IsSound, key_numbers, keys_of, number_at}, specs.Schema.{key_of, table_of}, specs.Tables.Value, specs.Columns.{column_dictionary, column_numbers, column_texts}, specs.declared.column.ColumnId.ColumnId, specs.declared.table.Key.TheVariants.One, proofs.Dictionaries.IsDictionary-dictionary_of, proofs.TextIndexes.{has_code, nat_lt-low_in, nat_lt-high_in}}
+use Rattle.star_world.{specs.RowsSeen.{HasNumber, HasText, IsCodeOf, IsWorldOf}, specs.WorldOf.world_of, proofs.Found.{IsFound, found_from, one_index}, proofs.Loaded.loaded}
 
 -- ---- codes
 
@@ -22,7 +16,7 @@ coded database c row text has =
     let stands = has_code texts text there in
     let code = ap (low_in ds) (get_or_from_slice_get texts row text [] has) in
     record {
-      place = code;
+      index = code;
       low = λ bound. ap (λ m. nat_lt m (low_in ds bound)) code
           ∙ nat_lt-low_in ds sorted (low_in ds text) text bound stands;
       high = λ bound. ap (λ m. nat_lt m (high_in ds bound)) code
@@ -64,14 +58,13 @@ key_there database key row n one =
 
 -- the answer is each row that has the key, where no two have it
 is_found : (n : ℤ) (keys : List (List ℤ)) (row : ℕ) (o : Option ℕ) → AllPairs (λ a b. a ≢ b) keys
-    → IsFound n keys 0 o
-    → (o ≡ Some row) ↔ (slice_get keys row ≡ Some (n ∷ []))
+    → IsFound n keys 0 o → (o ≡ Some row) ↔ (slice_get keys row ≡ Some (n ∷ []))
 is_found n keys row None apart none = (λ e. absurd (cc), λ e. absurd (none row e))
 is_found n keys row (Some i) apart (at, is, there) = (
-  λ e. let same : i ≡ row = cc in let place : at ≡ row = omega (arith, is, same) in
-      ap (slice_get keys) (sym place) ∙ there,
-  λ e. let place : at ≡ row = one_place keys at row (n ∷ []) apart there e in let same : i ≡ row =
-      omega (arith, is, place) in ap Some same,
+  λ e. let same : i ≡ row = cc in let index : at ≡ row = omega (arith, is, same) in
+      ap (slice_get keys) (sym index) ∙ there,
+  λ e. let index : at ≡ row = one_index keys at row (n ∷ []) apart there e in let same : i ≡ row =
+      omega (arith, is, index) in ap Some same,
 )
 
 pub shown : (database : Database) → IsSound database → IsWorldOf database (world_of database)

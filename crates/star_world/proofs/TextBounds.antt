@@ -1,10 +1,6 @@
 -- A column of texts has no numbers, so that its bounds are 0 and 0.
-use Rattle.std.proofs.Common.{◌≡◌, ℤ, pos, List, [], ◌∷◌, Option, Some, None, refl, sym, ap, ◌∙◌}
-use Rattle.std.proofs.{lemmas.List.Elements.All-contains, lemmas.List.Elements.All-map, lemmas.Option.slice_get-map}
-use Rattle.std.specs.{List.All, Option.option_map, Prelude.slice_get}
-use Rattle.star_schema.specs.Tables.{IsRowOf, Number, Text, Value, kind_of_value}
-use Rattle.star_schema.specs.{Bounds.greatest, Bounds.least, Bounds.number_in, Bounds.numbers_at, Database.Database, Database.rows_in, Schema.columns_of, Schema.kind_of, Schema.place_of, Schema.table_of, Columns.column_numbers, declared.column.ColumnId.ColumnId}
-use Rattle.star_schema.proofs.{Extremes.least_there, Extremes.greatest_there, Places.at_place}
+use Rattle.std.{proofs.Common.{◌≡◌, ℤ, pos, List, [], ◌∷◌, Option, Some, None, refl, sym, ap, ◌∙◌}, proofs.lemmas.List.Elements.{All-contains, All-map}, proofs.lemmas.Option.slice_get-map, specs.List.All, specs.Option.option_map, specs.Prelude.slice_get}
+use Rattle.star_schema.{specs.Tables.{IsRowOf, Number, Text, Value, kind_of_value}, specs.Bounds.{greatest, least, number_in, numbers_at}, specs.Database.{Database, rows_in}, specs.Schema.{columns_of, kind_of, position_of, table_of}, specs.Columns.column_numbers, specs.declared.column.ColumnId.ColumnId, proofs.Extremes.{least_there, greatest_there}, proofs.Indexes.at_position}
 use Rattle.star_interval.specs.Range.{only}
 use Rattle.star_world.specs.WorldOf.{world_of}
 use Rattle.star_schema.specs.declared.column.Kind.TheVariants as kind
@@ -28,20 +24,20 @@ text_zero (Some (Number n)) e = absurd (cc)
 text_zero (Some (Text bytes)) e = refl
 
 row_zero : (c : ColumnId) → kind_of c ≡ kind.Text → (row : List Value) → IsRowOf (table_of c) row
-    → IsZero (number_in (slice_get row (place_of c)))
+    → IsZero (number_in (slice_get row (position_of c)))
 row_zero c is row typed =
-    text_zero (slice_get row (place_of c))
-    (sym (slice_get-map kind_of_value row (place_of c))
-    ∙ ap (λ kinds. slice_get kinds (place_of c)) typed
-    ∙ slice_get-map kind_of (columns_of (table_of c)) (place_of c)
-    ∙ ap (option_map kind_of) (at_place c)
+    text_zero (slice_get row (position_of c))
+    (sym (slice_get-map kind_of_value row (position_of c))
+    ∙ ap (λ kinds. slice_get kinds (position_of c)) typed
+    ∙ slice_get-map kind_of (columns_of (table_of c)) (position_of c)
+    ∙ ap (option_map kind_of) (at_position c)
     ∙ ap Some is)
 
 numbers_zero : (c : ColumnId) → kind_of c ≡ kind.Text → (rows : List (List Value))
-    → All (IsRowOf (table_of c)) rows → All IsZero (numbers_at (place_of c) rows)
+    → All (IsRowOf (table_of c)) rows → All IsZero (numbers_at (position_of c) rows)
 unfolding numbers_at
 numbers_zero c is rows typed =
-    All-map IsZero (λ row. number_in (slice_get row (place_of c))) rows
+    All-map IsZero (λ row. number_in (slice_get row (position_of c))) rows
     (λ i d within. row_zero c is _ (typed i d within))
 
 pub text_bounds : (database : Database) (c : ColumnId) → kind_of c ≡ kind.Text

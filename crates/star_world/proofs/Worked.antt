@@ -1,9 +1,6 @@
 -- The world of a few rows, and what shows rows.
-use Rattle.std.proofs.Common.{◌≡◌, ◌↔◌, ◌<◌, ℕ, ℤ, List, [], ◌∷◌, Some, None, true, false, length, map, pos, refl}
-use Rattle.std.specs.{Prelude.codes, Prelude.nat_lt, Ordering.is_le, Ordering.is_lt}
-use Rattle.star_schema.specs.declared.{column.ColumnId.ColumnId, column.ColumnId.TheVariants.CCustkey, column.ColumnId.TheVariants.CName, column.ColumnId.TheVariants.PSize, table.Key.TheVariants.One, table.TableId.TableId, table.TableId.TheVariants.Customer}
-use Rattle.star_schema.specs.{Bounds.greatest, Bounds.least, Bounds.numbers_at, Database.Database, Database.rows_in, Dictionary.dictionary_of, Dictionary.text_cmp, Loadable.keys_of, Tables.Number, Tables.Text, Texts.texts_at}
-use Rattle.star_schema.specs.Schema.{column_of, key_of, place_of, references, table_of}
+use Rattle.std.{proofs.Common.{◌≡◌, ◌↔◌, ◌<◌, ℕ, ℤ, List, [], ◌∷◌, Some, None, true, false, length, map, pos, refl}, specs.Prelude.{codes, nat_lt}, specs.Ordering.{is_le, is_lt}}
+use Rattle.star_schema.specs.{declared.column.ColumnId.ColumnId, declared.column.ColumnId.TheVariants.{CCustkey, CName, PSize}, declared.table.Key.TheVariants.One, declared.table.TableId.TableId, declared.table.TableId.TheVariants.Customer, Bounds.{greatest, least, numbers_at}, Database.{Database, rows_in}, Dictionary.{dictionary_of, text_cmp}, Loadable.keys_of, Tables.{Number, Text}, Texts.texts_at, Schema.{column_of, key_of, position_of, references, table_of}}
 use Rattle.star_interval.specs.Range.{only}
 use Rattle.star_program.specs.World.{IsRowNumberOf, World, is_text}
 use Rattle.star_world.specs.{RowsSeen.HasNumber, RowsSeen.HasText, RowsSeen.IsCodeOf, RowsSeen.IsWorldOf, WorldOf.world_of}
@@ -22,21 +19,21 @@ few = record {
 abbrev w : World
 w = world_of few
 
--- two different texts; equal ones have one code, in the order of bytes and not of rows; counts are of a
--- text between the two, of one that is there, and of the empty one
+-- two different texts; equal ones have one code, in the order of bytes and not of rows; counts are
+-- of a text between the two, of one that is there, and of the empty one
 texts : (w.size Customer ≡ 3) × (w.entries CName ≡ 2)
     × (map (w.code CName) (0 ∷ 1 ∷ 2 ∷ []) ≡ 1 ∷ 0 ∷ 1 ∷ [])
     × (map (w.text CName) (0 ∷ 1 ∷ []) ≡ codes "a" ∷ codes "b" ∷ [])
     × (map (w.low CName) (codes "aa" ∷ codes "b" ∷ []) ≡ 1 ∷ 1 ∷ [])
     × (map (w.high CName) (codes "aa" ∷ codes "b" ∷ [] ∷ []) ≡ 1 ∷ 2 ∷ 0 ∷ [])
-unfolding column_of place_of texts_at dictionary_of
+unfolding column_of position_of texts_at dictionary_of
 texts = (refl, refl, refl, refl, refl, refl)
 
 -- a column with no row has the bounds 0 and 0
 numbers : (w.number CCustkey 1 ≡ pos 9) × (w.find Customer (pos 4) ≡ Some 2)
     × (w.find Customer (pos 5) ≡ None)
     × (w.bounds CCustkey ≡ record { low = pos 4; high = pos 9 }) × (w.bounds PSize ≡ only (pos 0))
-unfolding column_of place_of numbers_at keys_of least greatest
+unfolding column_of position_of numbers_at keys_of least greatest
 numbers = (refl, refl, refl, refl, refl)
 
 -- ---- what shows rows: a code is below what is counted for just the texts that come after it
@@ -47,8 +44,8 @@ module _ (d : Database) (v : World) (c : ColumnId) (text : List ℕ) (code : ℕ
       × ((bound : List ℕ) → nat_lt code (v.high c bound) ≡ is_le (text_cmp text bound))
       × (v.text c code ≡ text))
   a_code = (
-    λ i. (i.place, i.low, i.high, i.shown),
-    λ h. record { place = h.0; low = h.1; high = h.2; shown = h.3 },
+    λ i. (i.index, i.low, i.high, i.shown),
+    λ h. record { index = h.0; low = h.1; high = h.2; shown = h.3 },
   )
 
   a_world : IsWorldOf d v ↔ (((t : TableId) → v.size t ≡ length (rows_in d t))

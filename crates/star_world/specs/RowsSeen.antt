@@ -1,6 +1,5 @@
 -- What a program can see of some rows, column by column.
-use Rattle.std.specs.Prelude.{◌≡◌, ◌↔◌, ◌<◌, ℕ, ℤ, List, true, false, Some, length, nat_lt, slice_get}
-use Rattle.std.specs.{Ordering.is_le, Ordering.is_lt}
+use Rattle.std.specs.{Prelude.{◌≡◌, ◌↔◌, ◌<◌, ℕ, ℤ, List, true, false, Some, length, nat_lt, slice_get}, Ordering.{is_le, is_lt}}
 use Rattle.star_schema.specs.{declared.column.ColumnId.ColumnId, declared.table.Key.TheVariants.One, declared.table.TableId.TableId, Database.Database, Database.rows_in, Dictionary.text_cmp, Schema.key_of, Schema.references, Schema.table_of, Columns.column_numbers, Columns.column_texts}
 use Rattle.star_program.specs.World.{World, IsRowNumberOf, is_text}
 
@@ -15,7 +14,7 @@ HasText database c row text = slice_get (column_texts database c) row ≡ Some t
 -- the counts for any text, of the column or not, as the two texts compare, and it leads back to the
 -- text
 pub record IsCodeOf (w : World) (c : ColumnId) (text : List ℕ) (code : ℕ) : Type 0 where
-  pub place : code ≡ w.low c text
+  pub index : code ≡ w.low c text
   pub low : (bound : List ℕ) → nat_lt code (w.low c bound) ≡ is_lt (text_cmp text bound)
   pub high : (bound : List ℕ) → nat_lt code (w.high c bound) ≡ is_le (text_cmp text bound)
   pub shown : w.text c code ≡ text

@@ -1,6 +1,5 @@
 -- The world of the rows of five tables.
-use Rattle.std.specs.Prelude.{ℤ, pos, List, [], ◌∷◌, Bool, length, slice_index_or}
-use Rattle.std.specs.{Cmp.Lexicographic.pointwise, List.position_from, Ordering.int_eq}
+use Rattle.std.specs.{Prelude.{ℤ, pos, List, [], ◌∷◌, Bool, length, slice_index_or}, Cmp.Lexicographic.pointwise, List.position_from, Ordering.int_eq}
 use Rattle.star_schema.specs.{Columns.bounds_in, Columns.column_dictionary, Columns.column_numbers, Columns.column_texts, Database.Database, Database.rows_in, Dictionary.low_in, Dictionary.high_in, Loadable.keys_of}
 use Rattle.star_program.specs.World.{World}
 

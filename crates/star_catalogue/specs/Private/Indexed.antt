@@ -1,8 +1,6 @@
 -- The index of a dimension's keys.
-use Rattle.std.specs.Prelude.{ℕ, ℤ, Option, None, position}
-use Rattle.std.specs.{Ordering.int_eq}
-use Rattle.star_catalogue.specs.{declared.dimension.DimensionKeys.DimensionKeys, declared.dimension.DimensionKeys.TheVariants.Far, declared.dimension.DimensionKeys.TheVariants.Near, declared.dimension.LentKeys.LentKeys, declared.dimension.LentKeys.TheVariants.Dense}
-use Rattle.star_catalogue.specs.{declared.dimension.LentKeys.TheVariants.Hashed, declared.dimension.LentKeys.TheVariants.Nowhere, Private.Places.dense_at}
+use Rattle.std.specs.{Prelude.{ℕ, ℤ, Option, None, position}, Ordering.int_eq}
+use Rattle.star_catalogue.specs.{declared.dimension.DimensionKeys.DimensionKeys, declared.dimension.DimensionKeys.TheVariants.{Far, Near}, declared.dimension.LentKeys.LentKeys, declared.dimension.LentKeys.TheVariants.{Dense, Hashed, Nowhere}, Private.Indexes.dense_at}
 
 -- the row of a key, if there is one
 abbrev pub row_of_key : DimensionKeys → ℤ → Option ℕ

@@ -1,6 +1,5 @@
 -- The index of a table's keys.
-use Rattle.std.specs.Prelude.{◌≡◌, ◌↔◌, ◌&&◌, ℕ, ℤ, Bool, List, [], ◌∷◌, Option, Some, None, slice_get}
-use Rattle.std.specs.{Ordering.int_cmp, Ordering.int_eq, Ordering.ordering_then, declared.cmp.Ordering.Ordering}
+use Rattle.std.specs.{Prelude.{◌≡◌, ◌↔◌, ◌&&◌, ℕ, ℤ, Bool, List, [], ◌∷◌, Option, Some, None, slice_get}, Ordering.{int_cmp, int_eq, ordering_then}, declared.cmp.Ordering.Ordering}
 use Rattle.star_catalogue.specs.{Private.Indexed.row_of_key, declared.keys.KeyIndex.KeyIndex, declared.keys.KeyIndex.TheVariants.Dimension, declared.keys.KeyIndex.TheVariants.Pairs}
 
 -- the row of a number as a key, if there is one

@@ -2,8 +2,7 @@
 use Rattle.std.specs.Prelude.{◌≡◌, ℕ, List, true, false}
 use Rattle.star_engine.specs.{declared.fault.EngineFault.EngineFault, Loads.IsProgramError, Queries.IsQueryError, Questions.Asks, QuoteTexts.IsQuoteErrorOver, QuoteTexts.is_program_file}
 use Rattle.star_cli.specs.declared.answers.Asked.{Asked}
-use Rattle.star_words.specs.declared.request.Task.TheVariants.{Sample, Check, Bench, Query, Exec, Quote, Trial}
-use Rattle.star_words.specs.{declared.request.Task.Task}
+use Rattle.star_words.specs.declared.request.Task.{TheVariants.{Sample, Check, Bench, Query, Exec, Quote, Trial}, Task}
 use Rattle.star_cli.specs.declared.answers.Asked.TheVariants as asked
 
 -- this is asked for a task with this file

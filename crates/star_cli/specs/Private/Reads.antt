@@ -1,12 +1,10 @@
 -- How far the tables of a folder are read.
 use Rattle.std.specs.Prelude.{◌≡◌, ◌++◌, ⊤, Bool, true, false, List, [], ℕ, Option, None}
-use Rattle.star_schema.specs.declared.table.TableId.TheVariants.{Lineorder}
-use Rattle.star_schema.specs.{Database.TableTexts, Loadable.IsLoadable, Loadable.database_of, Most.most_rows, Most.most_visits, declared.table.TableId.TableId}
+use Rattle.star_schema.specs.{declared.table.TableId.TheVariants.Lineorder, Database.TableTexts, Loadable.{IsLoadable, database_of}, Most.{most_rows, most_visits}, declared.table.TableId.TableId}
 use Rattle.star_catalogue.specs.{Pieces.AreRead, declared.read_tables.ReadTables.ReadTables}
 use Rattle.star_reader.specs.Partway.{HasRead, HasReadText, Reading}
 use Rattle.star_engine.specs.{Loads.Loaded, Reading.GoesOnByPart}
-use Rattle.star_cli.specs.Stores.{AreParts, AreTablesIn, IsAt, IsFile, IsTextIn, Known, part_name, path_in, table_name}
-use Rattle.star_cli.specs.{FolderLoads.ArePartsUpTo, declared.failure.Failure.Failure, declared.progress.TableFile.TableFile, declared.progress.TableFile.TheVariants.Named}
+use Rattle.star_cli.specs.{Stores.{AreParts, AreTablesIn, IsAt, IsFile, IsTextIn, Known, part_name, path_in, table_name}, FolderLoads.ArePartsUpTo, declared.failure.Failure.Failure, declared.progress.TableFile.TableFile, declared.progress.TableFile.TheVariants.Named}
 use Rattle.star_cli.specs.declared.failure.Failure.TheVariants as failures
 use Rattle.star_cli.specs.declared.progress.TableFile.TheVariants as file
 
@@ -45,7 +43,8 @@ IsLineorderFed known folder false old new = ⊤
 -- a reader has been given a table of a folder
 abbrev pub IsReadIn : Known → (folder : List ℕ) → TableId → Reading → Type 0
 IsReadIn known folder table reading =
-    (text : List (List ℕ)) × IsTextIn known folder table text × HasReadText reading table most_rows text
+    (text : List (List ℕ)) × IsTextIn known folder table text
+    × HasReadText reading table most_rows text
 
 -- so has the reader of lineorder: all of it, or only one part
 abbrev pub IsLineorderRead : Known → (folder : List ℕ) → (only : Option ℕ) → Reading → Type 0

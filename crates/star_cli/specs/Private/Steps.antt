@@ -1,12 +1,10 @@
 -- The steps of a command.
-use Rattle.std.specs.Prelude.{◌≡◌, ◌⊎◌, List, ℕ, Option, Some, None}
-use Rattle.std.specs.Borrow.{Bor}
+use Rattle.std.specs.{Prelude.{◌≡◌, ◌⊎◌, List, ℕ, Option, Some, None}, Borrow.Bor}
 use Rattle.star_schema.specs.{Most.most_rows, Database.TableTexts}
 use Rattle.star_catalogue.specs.{Pieces.AreRead, declared.read_tables.ReadTables.ReadTables}
 use Rattle.star_words.specs.{Requests.HasMostRows, declared.request.Request.TheVariants.Answer, declared.request.Task.Task, declared.request.Task.TheVariants.Explain}
 use Rattle.star_service.specs.ReportSinks.{SinkChange}
-use Rattle.star_cli.specs.Commands.{AreTablesOf, IsFileOf}
-use Rattle.star_cli.specs.{Answers.IsOfTables, Failures.IsReadError, FolderLoads.AreTablesUnread, ReadFolders.AreReadIn, Stores.IsGivenFile, Stores.Known, declared.commands.Read.Read, declared.failure.Failure.Failure}
+use Rattle.star_cli.specs.{Commands.{AreTablesOf, IsFileOf}, Answers.IsOfTables, Failures.IsReadError, FolderLoads.AreTablesUnread, ReadFolders.AreReadIn, Stores.{IsGivenFile, Known}, declared.commands.Read.Read, declared.failure.Failure.Failure}
 
 -- the tables that were read for a task have these texts; only an explanation needs none
 abbrev pub AreTablesFor : Task → TableTexts → Option ReadTables → Type 0

@@ -31,12 +31,14 @@ completed e k = record {
 
 -- the emitter has written a piece: whatever code follows the piece follows the written code
 pub record Wrote (old new : Emitter) (piece : Env → (Env → Code) → Code) : Type 0 where
-  pub same : (k : Env → Code) → completed new (k (env_of new)) ≡ completed old (piece (env_of old) k)
+  pub same : (k : Env → Code)
+      → completed new (k (env_of new)) ≡ completed old (piece (env_of old) k)
 
 -- the same for a piece with the result x
 pub record Writes {A : Type 0} (old new : Emitter) (piece : Env → (Env → A → Code) → Code) (x : A)
     : Type 0 where
-  pub same : (k : Env → A → Code) → completed new (k (env_of new) x) ≡ completed old (piece (env_of old) k)
+  pub same : (k : Env → A → Code)
+      → completed new (k (env_of new) x) ≡ completed old (piece (env_of old) k)
 
 -- a piece is to be written; a program with it and with some code after it has at most 4,096
 -- registers

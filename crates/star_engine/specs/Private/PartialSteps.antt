@@ -1,6 +1,5 @@
 -- What the laws say of the plain program of a query.
-use Rattle.std.specs.Prelude.{◌≡◌, ◌↔◌, ℕ, ℤ, true, List, MatchOption, Option}
-use Rattle.std.specs.{Ordering.is_le}
+use Rattle.std.specs.{Prelude.{◌≡◌, ◌↔◌, ℕ, ℤ, true, List, MatchOption, Option}, Ordering.is_le}
 use Rattle.star_schema.specs.Database.{Database}
 use Rattle.star_plan.specs.Meaning.{Plan}
 use Rattle.star_program.specs.{declared.outcome.Outcome.Outcome, declared.program.Parts.Parts, Run.run_of}

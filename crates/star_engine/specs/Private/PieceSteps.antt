@@ -1,9 +1,7 @@
 -- The progress of reading a table file.
-use Rattle.std.specs.Prelude.{◌≡◌, ◌≤◌, ◌+◌, ℕ, List, Option, length}
-use Rattle.std.specs.Io.KnownBytes.{Consumes}
+use Rattle.std.specs.{Prelude.{◌≡◌, ◌≤◌, ◌+◌, ℕ, List, Option, length}, Io.KnownBytes.Consumes}
 use Rattle.star_reader.specs.Partway.{Reading}
-use Rattle.star_engine.specs.declared.input.Input.{Input}
-use Rattle.star_engine.specs.Reading.{ReadingGoesOn, came_of, has_failed, reader_of, reads_of}
+use Rattle.star_engine.specs.{declared.input.Input.Input, Reading.{ReadingGoesOn, came_of, has_failed, reader_of, reads_of}}
 
 -- `reads` reads returned `taken` bytes, none failed, and the table's reader has continued by these
 -- bytes

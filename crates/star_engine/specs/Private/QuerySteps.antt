@@ -1,6 +1,5 @@
 -- The laws about the program of a query.
-use Rattle.std.specs.Prelude.{◌≡◌, ◌≤◌, ◌<◌, ◌↔◌, ℕ, List, Some}
-use Rattle.std.specs.{Option.option_map}
+use Rattle.std.specs.{Prelude.{◌≡◌, ◌≤◌, ◌<◌, ◌↔◌, ℕ, List, Some}, Option.option_map}
 use Rattle.star_schema.specs.{Database.Database, Database.rows_in, Columns.bounds_in}
 use Rattle.star_plan.specs.Meaning.{Plan}
 use Rattle.star_program.specs.{Effects.State, Run.Ended, Run.run_of}
@@ -12,8 +11,7 @@ use Rattle.star_engine.specs.{Executions.IsAcceptedWithin, Executions.quote_over
 -- the laws about the program of a query over the rows of five tables
 pub record HasProgramLaws (most : ℕ) (database : Database) (query : List ℕ)
     (p : Plan) : Type 0 where
-  pub accepted : FitsRows most database query
-      ↔ IsAcceptedWithin database most (compiled p)
+  pub accepted : FitsRows most database query ↔ IsAcceptedWithin database most (compiled p)
   pub costly : most < fact_rows database → first_refusal (world_of database) most (compiled p)
       ≡ Some (TooCostly (fact_rows database))
   pub wide : fact_rows database ≤ most → ¬ FitsRows most database query

@@ -2,8 +2,7 @@
 use Rattle.std.specs.Prelude.{◌≡◌, ◌⊎◌, ℕ, List, Result, Ok, Err, length}
 use Rattle.star_program.specs.declared.program.Parts.{Parts}
 use Rattle.star_schema.specs.Database.{Database}
-use Rattle.star_engine.specs.{declared.fault.EngineFault.EngineFault, declared.fault.EngineFault.TheVariants.OutOfMemory, declared.fault.EngineFault.TheVariants.Refused, declared.fault.EngineFault.TheVariants.Write, Answered.Change, Answered.HasGained, Answered.HasGainedPart}
-use Rattle.star_engine.specs.{Answered.IsUntouched, Executions.IsRefusal}
+use Rattle.star_engine.specs.{declared.fault.EngineFault.EngineFault, declared.fault.EngineFault.TheVariants.{OutOfMemory, Refused, Write}, Answered.{Change, HasGained, HasGainedPart, IsUntouched}, Executions.IsRefusal}
 
 -- only out of memory
 abbrev pub IsMemory : EngineFault → Type 0

@@ -4,7 +4,8 @@ use Rattle.star_schema.specs.Database.{TableTexts}
 use Rattle.star_engine.specs.{declared.fault.EngineFault.EngineFault, Executions.IsRunError, Loads.HoldsOfRows, WithNotes.RunText, Queries.IsQueryRunError, QuoteTexts.IsQuoteOfKindOver, RunTexts.IsRunOfKind}
 
 -- the note of its quote
-abbrev pub IsQuoteOfTexts : (is_program : Bool) → (rows : ℕ) → TableTexts → (file text : List ℕ) → Type 0
+abbrev pub IsQuoteOfTexts : (is_program : Bool) → (rows : ℕ) → TableTexts → (file text : List ℕ)
+    → Type 0
 IsQuoteOfTexts is_program rows texts file text =
     HoldsOfRows rows texts (λ database. IsQuoteOfKindOver is_program database file text)
 

@@ -1,6 +1,5 @@
 -- The codes of texts that are in order.
-use Rattle.std.specs.Prelude.{◌≡◌, ℕ, Bool, List, All, nat_eq, slice_get, slice_index}
-use Rattle.std.specs.{Cmp.Lexicographic.pointwise, List.dedup}
+use Rattle.std.specs.{Prelude.{◌≡◌, ℕ, Bool, List, All, nat_eq, slice_get, slice_index}, Cmp.Lexicographic.pointwise, List.dedup}
 use Rattle.star_flat.specs.declared.ordered.Numbered.{Numbered}
 
 -- whether two texts are one

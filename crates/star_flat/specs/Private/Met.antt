@@ -2,6 +2,6 @@
 use Rattle.std.specs.Prelude.{◌≡◌, ◌≤◌, ℕ, List, Some, slice_get, take}
 use Rattle.star_flat.specs.declared.met.Met.{Met}
 
--- it is among the texts that are kept, at its place; a length over 16 is of none
+-- it is among the texts that are kept, at its position; a length over 16 is of none
 abbrev pub IsMet : List (List ℕ) → Met → Type 0
-IsMet kept met = met.len ≤ 16 → slice_get kept met.place ≡ Some (take met.len met.bytes)
+IsMet kept met = met.len ≤ 16 → slice_get kept met.index ≡ Some (take met.len met.bytes)

@@ -1,6 +1,5 @@
 -- The keys of texts, and their order.
-use Rattle.std.specs.Prelude.{◌≡◌, ◌+◌, ◌*◌, ◌%◌, ◌<◌, ◌≤◌, if◌then◌else◌, ℕ, zero, suc, List, [], All, Contains, length, map, nat_lt, slice_index, slice_index_or}
-use Rattle.std.specs.{Cmp.Lexicographic.slice_cmp, List.Sorted.IsSorted, Ordering.nat_cmp, Ordering.ordering_then, declared.cmp.Ordering.Ordering}
+use Rattle.std.specs.{Prelude.{◌≡◌, ◌+◌, ◌*◌, ◌%◌, ◌<◌, ◌≤◌, if◌then◌else◌, ℕ, zero, suc, List, [], All, Contains, length, map, nat_lt, slice_index, slice_index_or}, Cmp.Lexicographic.slice_cmp, List.Sorted.IsSorted, Ordering.{nat_cmp, ordering_then}, declared.cmp.Ordering.Ordering}
 use Rattle.star_flat.specs.{declared.ordered.Numbered.Numbered, declared.ordered.Whole.Whole}
 
 -- texts compare by their bytes, and one that another goes on from is less
@@ -50,7 +49,7 @@ by_key texts a b =
 abbrev pub numbered_texts : List (List ℕ) → List Numbered → List (List ℕ)
 numbered_texts texts ordered = map (text_at texts) ordered
 
--- the texts of a list in order, by their keys, and each place is the number of one
+-- the texts of a list in order, by their keys, and each position is the number of one
 pub record AreInTextOrder (texts : List (List ℕ)) (ordered : List Numbered) : Type 0 where
   pub len : length ordered ≡ length texts
   pub sorted : IsSorted text_cmp (numbered_texts texts ordered)

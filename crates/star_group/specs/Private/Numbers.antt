@@ -1,10 +1,8 @@
 -- The numbers of rows by their keys, and the room for more of them.
-use Rattle.std.specs.Prelude.{◌≡◌, ℕ, ◌+◌, ◌*◌, ◌^◌, ◌<◌, ◌≤◌, List, drop, length, vec_len}
-use Rattle.std.specs.{List.AllByRecursion, Vec.vec_capacity}
+use Rattle.std.specs.{Prelude.{◌≡◌, ℕ, ◌+◌, ◌*◌, ◌^◌, ◌<◌, ◌≤◌, List, drop, length, vec_len}, List.AllByRecursion, Vec.vec_capacity}
 use Rattle.star_schema.specs.declared.group.Aggregate.{Aggregate}
-use Rattle.star_group.specs.{declared.keyed.key.KeyPart.KeyPart, declared.keyed.KeyedRows.KeyedRows, declared.keyed.ListedRows.ListedRows, Keyed.all_rolled_up}
+use Rattle.star_group.specs.{declared.keyed.key.KeyPart.KeyPart, declared.keyed.KeyedRows.KeyedRows, declared.keyed.ListedRows.ListedRows, Keyed.{all_rolled_up, Row}}
 use Rattle.star_program.specs.Rows.{cut}
-use Rattle.star_group.specs.{Keyed.Row}
 
 abbrev pub listed_keys : ListedRows → List (List KeyPart)
 listed_keys rows = cut rows.width rows.len rows.keys.items
@@ -12,7 +10,7 @@ listed_keys rows = cut rows.width rows.len rows.keys.items
 abbrev pub keys_in : KeyedRows → List (List KeyPart)
 keys_in rows = listed_keys rows.listed
 
--- past `width` places a key has ALL
+-- past `width` positions a key has ALL
 abbrev pub IsNarrow : ℕ → List KeyPart → Type 0
 IsNarrow width key = drop width key ≡ drop width all_rolled_up
 

@@ -1,16 +1,17 @@
--- The cells at places after one number more for each of some rows.
+-- The cells at positions after one number more for each of some rows.
 use Rattle.std.specs.Prelude.{◌≡◌, ℕ, zero, suc, ◌<◌, false, true, ℤ, pos, List, [], ◌∷◌, Some, length, slice_index_or, slice_set, take, drop}
 use Rattle.star_interval.specs.Range.{is_i64}
 use Rattle.star_schema.specs.{declared.group.Aggregate.Aggregate, declared.group.Aggregate.TheVariants.Count}
 use Rattle.star_program.specs.{Puts.leaves, Rows.cut}
 use Rattle.star_group.specs.{declared.batch.PutBatch.PutBatch, Batches.put_in, Cells.step, Stores.put_number}
 
--- the items after the first rows, if each row changes the item at its place
+-- the items after the first rows, if each row changes the item at its position
 unfoldable pub after_rows : {A : Type 0} → A → (ℕ → A → A) → List ℕ → List A → ℕ → List A
 after_rows none change at items zero = items
 after_rows none change at items (suc row) =
     slice_set (after_rows none change at items row) (slice_index_or at row 0)
-    (change row (slice_index_or (after_rows none change at items row) (slice_index_or at row 0) none))
+    (change row (slice_index_or (after_rows none change at items row)
+    (slice_index_or at row 0) none))
 
 -- an aggregate's cells with one number more
 abbrev pub taking : Aggregate → List ℤ → ℕ → ℤ → ℤ
@@ -26,19 +27,19 @@ CanTake g vector at cells = (row : ℕ) → row < length at
     (slice_index_or at row 0) (pos 0)))) ≡ false
 
 abbrev pub AreWithin : List ℕ → ℕ → Type 0
-AreWithin at places = (row : ℕ) → row < length at → slice_index_or at row 0 < places
+AreWithin at ids = (row : ℕ) → row < length at → slice_index_or at row 0 < ids
 
 -- the cells of each aggregate, one after another, with one number more for each of some rows
-pub record AreCellsTaken (gs : List Aggregate) (places : ℕ) (vectors : ℕ → List ℤ) (at : List ℕ)
+pub record AreCellsTaken (gs : List Aggregate) (ids : ℕ) (vectors : ℕ → List ℤ) (at : List ℕ)
     (old new : List ℤ) : Type 0 where
-  pub columns : (a : ℕ) → a < length gs → slice_index_or (cut places (length gs) new) a []
-      ≡ column_after (slice_index_or gs a Count) (vectors a) at (slice_index_or (cut places
+  pub columns : (a : ℕ) → a < length gs → slice_index_or (cut ids (length gs) new) a []
+      ≡ column_after (slice_index_or gs a Count) (vectors a) at (slice_index_or (cut ids
       (length gs) old) a []) (length at)
   pub len : length new ≡ length old
 
 abbrev pub CanTakeAll : List Aggregate → ℕ → (ℕ → List ℤ) → List ℕ → List ℤ → Type 0
-CanTakeAll gs places vectors at cells = (a : ℕ) → a < length gs
-    → CanTake (slice_index_or gs a Count) (vectors a) at (slice_index_or (cut places
+CanTakeAll gs ids vectors at cells = (a : ℕ) → a < length gs
+    → CanTake (slice_index_or gs a Count) (vectors a) at (slice_index_or (cut ids
     (length gs) cells) a [])
 
 -- the vectors of one put's numbers

@@ -3,8 +3,7 @@
 ghost use Rattle.std.specs.Prelude.{◌≡◌, ◌≤◌, ◌<◌, ◌+◌, ◌*◌, ◌∷◌, ℕ, All, List, None, [], false, length, map, pos, slice_index_or, slice_set, true, Some};
 ghost use Rattle.star_interval.specs.Range.{is_i64};
 ghost use Rattle.star_program.specs.{Faults.value_count, Puts.aligned, Puts.leaves, Rows.cut};
-ghost use Rattle.star_group.specs.Private.Taken.{AreCellsTaken, AreWithin, CanTake, CanTakeAll, HasNarrow, after_rows, batch_vectors, column_after, vectors_of};
-ghost use Rattle.star_group.specs.{Batches.IsPutBatch, Batches.word_in, Cells.step};
+ghost use Rattle.star_group.specs.{Private.Taken.{AreCellsTaken, AreWithin, CanTake, CanTakeAll, HasNarrow, after_rows, batch_vectors, column_after, vectors_of}, Batches.{IsPutBatch, word_in}, Cells.step};
 ghost use Rattle.star_schema.specs.declared.group.Aggregate.TheVariants.{Count};
 
 use crate::batch::PutBatch;
@@ -63,8 +62,8 @@ fn take_vector(aggregate: Aggregate, cells: &mut [i128], at: &[u32], vector: &[i
     ensures len { length cells.new ≡ length cells.old }
 {
     for row in 0..at.len() {
-        let place = at[row];
-        cells[place as usize] = taken_in(aggregate, cells[place as usize], vector, row);
+        let id = at[row];
+        cells[id as usize] = taken_in(aggregate, cells[id as usize], vector, row);
     }
 }
 
@@ -135,44 +134,43 @@ pub(crate) fn mark(seen: &mut [bool], at: &[u32])
 pub(crate) fn take_column(
     cells: &mut [i128],
     aggregate_count: usize,
-    places: usize,
+    ids: usize,
     number: usize,
     aggregate: Aggregate,
     at: &[u32],
     vector: &[i64],
 )
     requires number { number < aggregate_count }
-    requires long { length cells.old ≡ aggregate_count * places }
+    requires long { length cells.old ≡ aggregate_count * ids }
     requires same { length vector.now ≡ length at.now }
-    requires within { AreWithin at.now places }
+    requires within { AreWithin at.now ids }
     requires stays { CanTake aggregate vector.now at.now
-        (slice_index_or (cut places aggregate_count cells.old) number []) }
-    ensures cells { cut places aggregate_count cells.new
-        ≡ slice_set (cut places aggregate_count cells.old) number
+        (slice_index_or (cut ids aggregate_count cells.old) number []) }
+    ensures cells { cut ids aggregate_count cells.new
+        ≡ slice_set (cut ids aggregate_count cells.old) number
         (column_after aggregate vector.now at.now
-        (slice_index_or (cut places aggregate_count cells.old) number []) (length at.now)) }
+        (slice_index_or (cut ids aggregate_count cells.old) number []) (length at.now)) }
     ensures len { length cells.new ≡ length cells.old }
 {
-    let start = number * places;
-    let end = start + places;
+    let start = number * ids;
+    let end = start + ids;
     take_vector_of(aggregate, &mut cells[start..end], at, vector);
 }
 
 // The cells of each aggregate with the number of one put at its group id.
 pub(crate) fn take_put(
     cells: &mut [i128],
-    places: usize,
+    ids: usize,
     aggregates: &[Aggregate],
     at: &[u32],
     values: &[i64],
 )
     requires one { length at.now ≡ 1 }
     requires values { length values.now ≡ length aggregates.now }
-    requires long { length cells.old ≡ length aggregates.now * places }
-    requires within { AreWithin at.now places }
-    requires stays { CanTakeAll aggregates.now places (vectors_of values.now) at.now cells.old }
-    ensures { AreCellsTaken aggregates.now places
-        (vectors_of values.now) at.now cells.old cells.new }
+    requires long { length cells.old ≡ length aggregates.now * ids }
+    requires within { AreWithin at.now ids }
+    requires stays { CanTakeAll aggregates.now ids (vectors_of values.now) at.now cells.old }
+    ensures { AreCellsTaken aggregates.now ids (vectors_of values.now) at.now cells.old cells.new }
 {
     let aggregate_count = aggregates.len();
     for number in 0..aggregate_count {
@@ -180,7 +178,7 @@ pub(crate) fn take_put(
         take_column(
             cells,
             aggregate_count,
-            places,
+            ids,
             number,
             aggregates[number],
             at,
@@ -198,16 +196,16 @@ fn cell_at(cells: &[i128], at: usize) -> Held
 }
 
 // The row of one group id.
-pub(crate) fn row_at(cells: &[i128], places: usize, aggregate_count: usize, place: usize) -> Row
-    requires place { place < places }
+pub(crate) fn row_at(cells: &[i128], ids: usize, aggregate_count: usize, id: usize) -> Row
+    requires id { id < ids }
     requires few { aggregate_count ≤ 8 }
-    requires long { length cells.now ≡ aggregate_count * places }
+    requires long { length cells.now ≡ aggregate_count * ids }
     ensures { (a : ℕ) → a < aggregate_count → slice_index_or result a None
-        ≡ Some (slice_index_or (slice_index_or (cut places aggregate_count cells.now) a []) place (pos 0)) }
+        ≡ Some (slice_index_or (slice_index_or (cut ids aggregate_count cells.now) a []) id (pos 0)) }
 {
     let mut row = [Held::new(0); 8];
     for number in 0..aggregate_count {
-        row[number] = cell_at(cells, number * places + place);
+        row[number] = cell_at(cells, number * ids + id);
     }
     row
 }
@@ -265,7 +263,7 @@ fn next_vector<'a>(
 // The cells of each aggregate with the numbers of the rows of a batch at their group ids.
 pub(crate) fn take_vectors(
     cells: &mut [i128],
-    places: usize,
+    ids: usize,
     aggregates: &[Aggregate],
     at: &[u32],
     batch: &PutBatch<'_>,
@@ -273,12 +271,12 @@ pub(crate) fn take_vectors(
     requires batch { IsPutBatch batch.now }
     requires declared { aggregates.now ≡ batch.now.declared.now.aggregates }
     requires rows { length at.now ≡ batch.now.rows }
-    requires long { length cells.old ≡ length aggregates.now * places }
-    requires within { AreWithin at.now places }
+    requires long { length cells.old ≡ length aggregates.now * ids }
+    requires within { AreWithin at.now ids }
     requires stays { (a : ℕ) → a < length aggregates.now → HasNarrow batch.now a
         → CanTake (slice_index_or aggregates.now a Count) (batch_vectors batch.now a) at.now
-        (slice_index_or (cut places (length aggregates.now) cells.old) a []) }
-    ensures cells { AreCellsTaken aggregates.now places
+        (slice_index_or (cut ids (length aggregates.now) cells.old) a []) }
+    ensures cells { AreCellsTaken aggregates.now ids
         (batch_vectors batch.now) at.now cells.old cells.new }
     ensures narrow { (a : ℕ) → a < length aggregates.now → HasNarrow batch.now a }
 {
@@ -290,7 +288,7 @@ pub(crate) fn take_vectors(
         take_column(
             cells,
             aggregate_count,
-            places,
+            ids,
             number,
             aggregates[number],
             at,

@@ -3,11 +3,11 @@
 ghost use Rattle.std.specs.Prelude.{◌≡◌, ◌≤◌, ℕ, List, Some, length};
 ghost use Rattle.star_group.specs.{Base.HasAggregates, Base.key_view, BaseKeys.padded, Private.Numbers.IsNarrow, ArrayStores.Has, ArrayStores.group_view};
 ghost use Rattle.star_program.specs.{Puts.Update, declared.key.KeyValue.KeyValue as Value};
-ghost use Rattle.star_group.specs.Places as spec;
+ghost use Rattle.star_group.specs.Ids as spec;
 
 use super::ArrayStore;
 use super::cells::row_at;
-use super::places::keys_at;
+use super::ids::keys_at;
 use super::span::Span;
 use crate::cell::Total;
 use crate::keyed::key::{OrderedKey, base_key};
@@ -23,11 +23,11 @@ impl ArrayStore {
         let aggregates = self.rest.aggregates.as_slice();
         let seen = self.seen.as_slice();
         let cells = self.cells.as_slice();
-        let (places, aggregate_count) = (seen.len(), aggregates.len());
+        let (ids, aggregate_count) = (seen.len(), aggregates.len());
         let mut total = self.rest.total.copied();
-        for place in 0..places {
-            if seen[place] {
-                let row = row_at(cells, places, aggregate_count, place);
+        for id in 0..ids {
+            if seen[id] {
+                let row = row_at(cells, ids, aggregate_count, id);
                 total.merge(aggregates, &row);
             }
         }
@@ -36,12 +36,12 @@ impl ArrayStore {
 }
 
 // The key of a group id.
-pub(super) fn key_at(spans: &[Span], place: usize) -> OrderedKey
+pub(super) fn key_at(spans: &[Span], id: usize) -> OrderedKey
     requires { length spans.now ≤ 6 }
-    ensures key { (keys : List Value) → spec.cell_place spans.now keys ≡ Some place
+    ensures key { (keys : List Value) → spec.group_id spans.now keys ≡ Some id
         → key_view result ≡ padded 6 keys }
     ensures narrow { (width : ℕ) → length spans.now ≤ width → IsNarrow width result }
 {
-    let keys = keys_at(spans, place);
+    let keys = keys_at(spans, id);
     base_key(&keys[..spans.len()])
 }

@@ -2,7 +2,7 @@
 
 ghost use Rattle.std.specs.Prelude.{◌≡◌, ◌≤◌, ◌*◌, OnOk, length};
 ghost use Rattle.star_group.specs.{Private.Coarser.AreOnce, Entries.listed_entries, Private.ArrayPut.IsListed};
-ghost use Rattle.star_group.specs.Places as spec;
+ghost use Rattle.star_group.specs.Ids as spec;
 
 use super::cells::row_at;
 use super::filling::key_at;
@@ -12,7 +12,7 @@ use star_schema::Aggregate;
 use std::alloc::AllocError;
 
 // The row of each group id that has puts. No other row has its keys, so nothing is looked up.
-pub(super) fn push_places(
+pub(super) fn push_ids(
     rows: &mut ListedRows,
     spans: &[Span],
     seen: &[bool],
@@ -22,7 +22,7 @@ pub(super) fn push_places(
     requires keys { length spans.now ≤ rows.old.width }
     requires few { length aggregates.now ≤ 8 }
     requires aggregate_count { length aggregates.now ≡ rows.old.aggregate_count }
-    requires places { length seen.now ≡ spec.places spans.now }
+    requires ids { length seen.now ≡ spec.id_count spans.now }
     requires long { length cells.now ≡ length aggregates.now * length seen.now }
     ensures rows { OnOk result (AreOnce (listed_entries rows.old)
         → IsListed aggregates.now spans.now seen.now cells.now
@@ -30,11 +30,11 @@ pub(super) fn push_places(
     ensures width { OnOk result (rows.new.width ≡ rows.old.width) }
     ensures aggregate_count { OnOk result (rows.new.aggregate_count ≡ rows.old.aggregate_count) }
 {
-    let (places, aggregate_count) = (seen.len(), aggregates.len());
-    for place in 0..seen.len() {
-        if seen[place] {
-            let key = key_at(spans, place);
-            let row = row_at(cells, places, aggregate_count, place);
+    let (ids, aggregate_count) = (seen.len(), aggregates.len());
+    for id in 0..seen.len() {
+        if seen[id] {
+            let key = key_at(spans, id);
+            let row = row_at(cells, ids, aggregate_count, id);
             rows.push(&key, &row[..aggregate_count])?;
         }
     }

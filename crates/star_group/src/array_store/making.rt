@@ -3,8 +3,8 @@
 ghost use Rattle.std.specs.Prelude.{◌≡◌, ◌≤◌, ◌<◌, ◌+◌, ◌*◌, ◌^◌, ◌++◌, ℕ, [], length, pos, replicate, slice_index_or, IfOk, OnOk};
 ghost use Rattle.star_schema.specs.declared.group.Aggregate.TheVariants.{Count};
 ghost use Rattle.star_program.specs.Rows.{cut};
-ghost use Rattle.star_group.specs.ByPlace as spec;
-ghost use Rattle.star_group.specs.Places.{IsOf, places};
+ghost use Rattle.star_group.specs.ById as spec;
+ghost use Rattle.star_group.specs.Ids.{IsOf, id_count};
 
 use super::span::Span;
 use star_interval::Interval;
@@ -72,7 +72,7 @@ pub(super) fn spans_of(
     ranges: &[Interval],
 ) -> Result<(Vec<Span>, usize), AllocError>
     ensures keys { IfOk result (λ made. length made.0.items ≡ length keys.now) }
-    ensures places { IfOk result (λ made. made.1 ≡ places made.0.items) }
+    ensures ids { IfOk result (λ made. made.1 ≡ id_count made.0.items) }
     ensures few { IfOk result (λ made. made.1 ≤ 2 ^ 28) }
 {
     let mut spans = Vec::with_capacity(alloc, keys.len())?;
@@ -103,12 +103,12 @@ fn neutral(aggregate: Aggregate) -> i128
 fn add_blank_column(
     cells: &mut Vec<i128>,
     aggregate: Aggregate,
-    places: usize,
+    ids: usize,
 ) -> Result<(), AllocError>
     ensures { OnOk result
-        (cells.new.items ≡ cells.old.items ++ replicate places (spec.neutral aggregate)) }
+        (cells.new.items ≡ cells.old.items ++ replicate ids (spec.neutral aggregate)) }
 {
-    let end = cells.len().checked_add(places).ok_or(AllocError)?;
+    let end = cells.len().checked_add(ids).ok_or(AllocError)?;
     cells.resize(end, neutral(aggregate))
 }
 
@@ -116,17 +116,17 @@ fn add_blank_column(
 pub(super) fn blank_cells(
     alloc: Global,
     aggregates: &[Aggregate],
-    places: usize,
+    ids: usize,
 ) -> Result<Vec<i128>, AllocError>
     ensures cells { IfOk result (λ cells. (a : ℕ) → a < length aggregates.now
-        → slice_index_or (cut places (length aggregates.now) cells.items) a []
-        ≡ replicate places (spec.neutral (slice_index_or aggregates.now a Count))) }
-    ensures len { IfOk result (λ cells. length cells.items ≡ length aggregates.now * places) }
+        → slice_index_or (cut ids (length aggregates.now) cells.items) a []
+        ≡ replicate ids (spec.neutral (slice_index_or aggregates.now a Count))) }
+    ensures len { IfOk result (λ cells. length cells.items ≡ length aggregates.now * ids) }
 {
-    let all = aggregates.len().checked_mul(places).ok_or(AllocError)?;
+    let all = aggregates.len().checked_mul(ids).ok_or(AllocError)?;
     let mut cells = Vec::with_capacity(alloc, all)?;
     for aggregate in aggregates {
-        add_blank_column(&mut cells, *aggregate, places)?;
+        add_blank_column(&mut cells, *aggregate, ids)?;
     }
     Ok(cells)
 }

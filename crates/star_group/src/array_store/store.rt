@@ -1,14 +1,14 @@
 // Array aggregation is a store of groups.
 
 ghost use Rattle.std.specs.Prelude.{◌≡◌, ◌≤◌, ◌<◌, ℕ, List, [], IfOk, OnErr, OnOk, length};
-ghost use Rattle.star_group.specs.{Batches.HasRoomForRows, Batches.IsPutBatch, Batches.puts_after, Batches.put_in, ArrayStores.group_view, ArrayStores.Has, Private.ArrayPut.AreAtPlaces, Stores.group_declared};
+ghost use Rattle.star_group.specs.{Batches.HasRoomForRows, Batches.IsPutBatch, Batches.puts_after, Batches.put_in, ArrayStores.group_view, ArrayStores.Has, Private.ArrayPut.AreAtIds, Stores.group_declared};
 ghost use Rattle.star_program.specs.Puts.{Update};
 
 use super::ArrayStore;
 use super::cells::{are_narrow, mark, take_put, take_vectors};
-use super::listing::{count_seen, push_places};
+use super::ids::{find_ids, id_of};
+use super::listing::{count_seen, push_ids};
 use super::making::{blank_cells, spans_of};
-use super::places::{find_places, place_of};
 use crate::batch::PutBatch;
 use crate::cell::shown;
 use crate::deferred::DeferredStore;
@@ -21,11 +21,11 @@ use std::alloc::{AllocError, Global};
 
 impl ArrayStore {
     // The puts of some rows whose keys have these group ids, one after another in order.
-    fn put_at(&mut self, batch: &PutBatch<'_>, places: &[u32])
+    fn put_at(&mut self, batch: &PutBatch<'_>, ids: &[u32])
         requires declared { group_declared batch.now.declared.now ≡ group_view self.old }
         requires batch { IsPutBatch batch.now }
-        requires rows { length places.now ≡ batch.now.rows }
-        requires at { AreAtPlaces self.old.spans.items batch.now places.now }
+        requires rows { length ids.now ≡ batch.now.rows }
+        requires at { AreAtIds self.old.spans.items batch.now ids.now }
         requires room { (puts : List Update) × Has self.old puts
             × HasRoomForRows (group_view self.old) (put_in batch.now) puts batch.now.rows }
         ensures has { (puts : List Update) → Has self.old puts
@@ -35,8 +35,8 @@ impl ArrayStore {
         let rest = &self.rest;
         let aggregates = rest.aggregates.as_slice();
         let all = self.seen.as_slice().len();
-        take_vectors(self.cells.as_mut_slice(), all, aggregates, places, batch);
-        mark(self.seen.as_mut_slice(), places);
+        take_vectors(self.cells.as_mut_slice(), all, aggregates, ids, batch);
+        mark(self.seen.as_mut_slice(), ids);
     }
 }
 
@@ -56,9 +56,9 @@ impl GroupStore for ArrayStore {
         ranges: &[Interval],
     ) -> Result<ArrayStore, AllocError> {
         let rest = DeferredStore::new(alloc, declared)?;
-        let (spans, places) = spans_of(alloc, declared.keys.as_slice(), ranges)?;
-        let seen = vec![in alloc; false; places]?;
-        let cells = blank_cells(alloc, declared.aggregates.as_slice(), places)?;
+        let (spans, ids) = spans_of(alloc, declared.keys.as_slice(), ranges)?;
+        let seen = vec![in alloc; false; ids]?;
+        let cells = blank_cells(alloc, declared.aggregates.as_slice(), ids)?;
         Ok(ArrayStore {
             rest,
             spans,
@@ -68,13 +68,13 @@ impl GroupStore for ArrayStore {
     }
 
     fn put(&mut self, keys: &[KeyValue], values: &[i64]) -> Result<(), AllocError> {
-        match place_of(self.spans.as_slice(), keys) {
+        match id_of(self.spans.as_slice(), keys) {
             None => self.rest.add(keys, values),
-            Some(place) => {
+            Some(id) => {
                 let rest = &self.rest;
                 let aggregates = rest.aggregates.as_slice();
                 let all = self.seen.as_slice().len();
-                let at = [place as u32];
+                let at = [id as u32];
                 are_narrow(values);
                 take_put(self.cells.as_mut_slice(), all, aggregates, &at, values);
                 mark(self.seen.as_mut_slice(), &at);
@@ -88,9 +88,9 @@ impl GroupStore for ArrayStore {
         if self.seen.len() == 1 && !batch.keys.is_empty() {
             return false;
         }
-        let mut places = [0; 1024];
-        let at = &mut places[..batch.rows];
-        if !find_places(self.spans.as_slice(), batch, at) {
+        let mut ids = [0; 1024];
+        let at = &mut ids[..batch.rows];
+        if !find_ids(self.spans.as_slice(), batch, at) {
             return false;
         }
         self.put_at(batch, at);
@@ -116,7 +116,7 @@ impl GroupStore for ArrayStore {
         let aggregates = rest.aggregates.as_slice();
         let seen = seen.as_slice();
         rows.reserve(count_seen(seen))?;
-        push_places(
+        push_ids(
             &mut rows,
             spans.as_slice(),
             seen,

@@ -1,8 +1,7 @@
 // The rows in which keys are ALL, made from those in which fewer are.
 
 ghost use Rattle.std.specs.Prelude.{◌≡◌, ◌≤◌, ◌<◌, ◌+◌, ◌++◌, true, List, length, take, IfOk, OnOk};
-ghost use Rattle.star_group.specs.Private.Coarser.{IsMergedWhere, IsRolledUp, IsRolledUpWithRoom, NoneCoarser, RollsUp};
-ghost use Rattle.star_group.specs.{Base.group_with, Base.key_view, Base.row_found, Entries.entries_of, Entries.listed_entries, Private.Merged.RowsStay, Private.Numbers.AreAsWide, Private.Numbers.FitsIn, Private.Numbers.IsNarrow, StoreRows.AreRows};
+ghost use Rattle.star_group.specs.{Private.Coarser.{IsMergedWhere, IsRolledUp, IsRolledUpWithRoom, NoneCoarser, RollsUp}, Base.{group_with, key_view, row_found}, Entries.{entries_of, listed_entries}, Private.Merged.RowsStay, Private.Numbers.{AreAsWide, FitsIn, IsNarrow}, StoreRows.AreRows};
 ghost use Rattle.star_program.specs.Puts.{Update};
 ghost use Rattle.star_schema.specs.Groups as groups;
 ghost use Rattle.star_group.specs.Private.Coarser as spec;
@@ -39,41 +38,41 @@ fn merge_coarser(
     rows.merge(key, aggregates, more)
 }
 
-// The coarser rows of a pass: for each row from this one on that with ALL at this place, if that is
+// The coarser rows of a pass: for each row from this one on that with ALL at this position, if that is
 // a grouping, made of all rows that differ only there. The rows before have none.
 fn coarser_rows(
     alloc: Global,
     rows: &ListedRows,
     shape: Shape,
     key_count: usize,
-    place: usize,
+    index: usize,
     from: usize,
     aggregates: &[Aggregate],
 ) -> Result<KeyedRows, AllocError>
     requires key_count { key_count ≤ rows.now.width }
-    requires place { place < key_count }
+    requires index { index < key_count }
     requires few { length aggregates.now ≤ 8 }
     requires aggregate_count { length aggregates.now ≡ rows.now.aggregate_count }
-    requires room { ∥ IsRolledUpWithRoom shape key_count aggregates.now (place + 1)
+    requires room { ∥ IsRolledUpWithRoom shape key_count aggregates.now (index + 1)
         (listed_entries rows.now) ∥₁ }
     requires from { from ≤ length (listed_entries rows.now) }
-    requires none { NoneCoarser shape key_count place from (listed_entries rows.now) }
+    requires none { NoneCoarser shape key_count index from (listed_entries rows.now) }
     ensures rows { IfOk result (λ made. RollsUp shape key_count aggregates.now
-        (place + 1) (listed_entries rows.now) place (listed_entries rows.now ++ entries_of made)) }
+        (index + 1) (listed_entries rows.now) index (listed_entries rows.now ++ entries_of made)) }
     ensures width { IfOk result (λ made. made.listed.width ≡ rows.now.width) }
     ensures aggregate_count { IfOk result (λ made. made.listed.aggregate_count
         ≡ rows.now.aggregate_count) }
 {
     let mut made = KeyedRows::new(alloc, rows.width, aggregates.len())?;
-    for index in from..rows.len() {
-        let key = with_all_at(&rows.key(index), place);
+    for number in from..rows.len() {
+        let key = with_all_at(&rows.key(number), index);
         merge_coarser(
             &mut made,
             shape,
             key_count,
             &key,
             aggregates,
-            rows.row(index),
+            rows.row(number),
         )?;
     }
     Ok(made)
@@ -90,9 +89,8 @@ fn first_hidden(shape: Shape, key_count: usize) -> usize
     }
 }
 
-// The first row that a pass makes a coarser one of, if there were `row_count` rows before the
-// pass before it. The coarser rows of a rollup are a chain: each is made of those that were made
-// last.
+// The first row that a pass makes a coarser one of, if there were `row_count` rows before the pass
+// before it. The coarser rows of a rollup are a chain: each is made of those that were made last.
 fn first_finer(shape: Shape, row_count: usize) -> usize
     ensures first { result ≡ spec.first_finer shape row_count }
     ensures within { result ≤ row_count }
@@ -122,11 +120,11 @@ fn add_coarser(
 {
     let first = first_hidden(shape, key_count);
     let mut from = 0;
-    let mut place = key_count;
-    while place > first {
-        place -= 1;
+    let mut index = key_count;
+    while index > first {
+        index -= 1;
         let row_count = rows.len();
-        let made = coarser_rows(alloc, rows, shape, key_count, place, from, aggregates)?;
+        let made = coarser_rows(alloc, rows, shape, key_count, index, from, aggregates)?;
         rows.append(&made.listed)?;
         from = first_finer(shape, row_count);
     }

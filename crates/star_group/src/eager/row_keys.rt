@@ -28,21 +28,21 @@ fn push_row_key(
     Ok(())
 }
 
-// Each key once more, with ALL at this place, if a row has that.
+// Each key once more, with ALL at this position, if a row has that.
 fn double(
     row_keys: &mut Vec<OrderedKey>,
     shape: Shape,
     key_count: usize,
-    place: usize,
+    index: usize,
 ) -> Result<(), AllocError>
     requires key_count { key_count ≤ 6 }
-    requires place { place < 6 }
+    requires index { index < 6 }
     ensures { OnOk result (row_keys.new.items ≡ row_keys.old.items
         ++ filter (λ key. is_row_key shape key_count (key_view key))
-        (map (λ key. slice_set key place KeyPart.All) row_keys.old.items)) }
+        (map (λ key. slice_set key index KeyPart.All) row_keys.old.items)) }
 {
-    for index in 0..row_keys.len() {
-        let key = with_all_at(&row_keys[index], place);
+    for number in 0..row_keys.len() {
+        let key = with_all_at(&row_keys[number], index);
         push_row_key(row_keys, shape, key_count, key)?;
     }
     Ok(())
@@ -56,10 +56,10 @@ fn vary(row_keys: &mut Vec<OrderedKey>, shape: Shape, key_count: usize) -> Resul
         → OnOk result (map key_view row_keys.new.items
         ≡ filter (is_row_key shape key_count) (spec.vary key_count (padded 6 keys))) }
 {
-    let mut place = key_count;
-    while place > 0 {
-        place -= 1;
-        double(row_keys, shape, key_count, place)?;
+    let mut index = key_count;
+    while index > 0 {
+        index -= 1;
+        double(row_keys, shape, key_count, index)?;
     }
     Ok(())
 }

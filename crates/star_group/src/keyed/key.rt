@@ -1,7 +1,6 @@
 // The keys of rows by their keys.
 
-ghost use Rattle.std.specs.Prelude.{◌≡◌, ◌≤◌, ◌<◌, Some, None, length, slice_set, take};
-ghost use Rattle.std.specs.{List.list_all, Option.is_some};
+ghost use Rattle.std.specs.{Prelude.{◌≡◌, ◌≤◌, ◌<◌, Some, None, length, slice_set, take}, List.list_all, Option.is_some};
 ghost use Rattle.star_schema.specs.declared.group.Shape.TheVariants.{Rollup};
 ghost use Rattle.star_group.specs.{BaseKeys.padded, Base.key_view, Base.key_value_view, Keyed.filled};
 ghost use Rattle.star_schema.specs.Groups as spec;
@@ -9,7 +8,7 @@ ghost use Rattle.star_schema.specs.Groups as spec;
 use crate::KeyValue;
 use star_schema::Shape;
 
-// One place of a row's key.
+// One position of a row's key.
 #[derive(Clone, Copy, PartialEq, Eq)]
 pub(crate) enum KeyPart {
     All,
@@ -17,7 +16,7 @@ pub(crate) enum KeyPart {
     Code(u32),
 }
 
-// A row's key in six places; past the group's keys there is `All`.
+// A row's key in six positions; past the group's keys there is `All`.
 pub(crate) type OrderedKey = [KeyPart; 6];
 
 pub(crate) const ALL_HIDDEN: OrderedKey = [KeyPart::All; 6];
@@ -41,8 +40,8 @@ pub(super) fn value_in(part: KeyPart) -> Option<KeyValue>
     }
 }
 
-// A key in six places.
-pub(crate) fn in_six_places(key: &[KeyPart]) -> OrderedKey
+// A key in six positions.
+pub(crate) fn in_six_slots(key: &[KeyPart]) -> OrderedKey
     requires { length key.now ≤ 6 }
     ensures { result ≡ filled key.now }
 {
@@ -57,20 +56,20 @@ pub(crate) fn base_key(keys: &[KeyValue]) -> OrderedKey
     ensures { key_view result ≡ padded 6 keys.now }
 {
     let mut parts = ALL_HIDDEN;
-    for place in 0..keys.len() {
-        parts[place] = part_of(keys[place]);
+    for index in 0..keys.len() {
+        parts[index] = part_of(keys[index]);
     }
     parts
 }
 
-// The key with ALL at this place.
-pub(crate) fn with_all_at(parts: &OrderedKey, place: usize) -> OrderedKey
-    requires { place < 6 }
-    ensures key { key_view result ≡ slice_set (key_view parts.now) place None }
-    ensures parts { result ≡ slice_set parts.now place KeyPart.All }
+// The key with ALL at this position.
+pub(crate) fn with_all_at(parts: &OrderedKey, index: usize) -> OrderedKey
+    requires { index < 6 }
+    ensures key { key_view result ≡ slice_set (key_view parts.now) index None }
+    ensures parts { result ≡ slice_set parts.now index KeyPart.All }
 {
     let mut coarser = *parts;
-    coarser[place] = KeyPart::All;
+    coarser[index] = KeyPart::All;
     coarser
 }
 

@@ -4,27 +4,27 @@ ghost use Rattle.std.specs.Prelude.{◌≡◌, ◌<◌, ◌+◌, ◌++◌, ◌�
 ghost use Rattle.star_group.specs.{Base.key_view, Entries.listed_entries, Private.Numbers.HasRowSpace, Private.Numbers.IsNarrow, Private.Numbers.listed_keys};
 
 use super::ListedRows;
-use super::key::{KeyPart, OrderedKey, in_six_places, value_in};
+use super::key::{KeyPart, OrderedKey, in_six_slots, value_in};
 use crate::KeyValue;
 use crate::cell::Held;
 use star_program::row_of;
 use std::alloc::AllocError;
 
-// The key at a place, if there is one.
-fn part_in(parts: &[KeyPart], place: usize) -> Option<KeyValue>
-    ensures { result ≡ slice_index_or (key_view parts.now) place None }
+// The key at a position, if there is one.
+fn part_in(parts: &[KeyPart], index: usize) -> Option<KeyValue>
+    ensures { result ≡ slice_index_or (key_view parts.now) index None }
 {
-    match parts.get(place) {
+    match parts.get(index) {
         Some(part) => value_in(*part),
         None => None,
     }
 }
 
-// The aggregate at a place, if there is one.
-fn held_in(row: &[Held], place: usize) -> Option<i128>
-    ensures { result ≡ slice_index_or row.now place None }
+// The aggregate at a position, if there is one.
+fn held_in(row: &[Held], index: usize) -> Option<i128>
+    ensures { result ≡ slice_index_or row.now index None }
 {
-    match row.get(place) {
+    match row.get(index) {
         Some(held) => Some(held.number()),
         None => None,
     }
@@ -44,7 +44,7 @@ impl ListedRows {
         ensures key { result ≡ (slice_index_or (listed_entries self.now) number ([], [])).0 }
         ensures narrow { IsNarrow self.now.width result }
     {
-        in_six_places(row_of(self.keys.as_slice(), self.width, self.len, number))
+        in_six_slots(row_of(self.keys.as_slice(), self.width, self.len, number))
     }
 
     // The aggregates of the row of a number.
@@ -60,21 +60,21 @@ impl ListedRows {
             number,
         )
     }
-    // The key at a place of the row of a number; past the row's own there is none.
-    pub(crate) fn part(&self, number: usize, place: usize) -> Option<KeyValue>
+    // The key at a position of the row of a number; past the row's own there is none.
+    pub(crate) fn part(&self, number: usize, index: usize) -> Option<KeyValue>
         ensures { result ≡ slice_index_or
-            (key_view (slice_index_or (listed_entries self.now) number ([], [])).0) place None }
+            (key_view (slice_index_or (listed_entries self.now) number ([], [])).0) index None }
     {
         part_in(
             row_of(self.keys.as_slice(), self.width, self.len, number),
-            place,
+            index,
         )
     }
 
-    // The aggregate at a place of the row of a number, if there is one.
-    pub(crate) fn cell(&self, number: usize, place: usize) -> Option<i128>
+    // The aggregate at a position of the row of a number, if there is one.
+    pub(crate) fn cell(&self, number: usize, index: usize) -> Option<i128>
         ensures { result ≡ slice_index_or
-            (slice_index_or (listed_entries self.now) number ([], [])).1 place None }
+            (slice_index_or (listed_entries self.now) number ([], [])).1 index None }
     {
         held_in(
             row_of(
@@ -83,7 +83,7 @@ impl ListedRows {
                 self.len,
                 number,
             ),
-            place,
+            index,
         )
     }
 

@@ -1,7 +1,6 @@
 // Rows of different puts merged into one.
 
-ghost use Rattle.std.specs.Prelude.{◌≡◌, ◌≤◌, ◌<◌, ◌+ℤ◌, ℤ, pos, [], false, not, length, None, Option, Some, slice_index_or, MatchBool, MatchOption};
-ghost use Rattle.std.specs.Option.{option_copied, unwrap_or};
+ghost use Rattle.std.specs.{Prelude.{◌≡◌, ◌≤◌, ◌<◌, ◌+ℤ◌, ℤ, pos, [], false, not, length, None, Option, Some, slice_index_or, MatchBool, MatchOption}, Option.{option_copied, unwrap_or}};
 ghost use Rattle.star_schema.specs.declared.group.Aggregate.TheVariants.{Count};
 ghost use Rattle.star_interval.specs.Range.{is_i64, is_i128};
 ghost use Rattle.star_program.specs.Puts.{leaves};
@@ -25,16 +24,16 @@ fn merged(aggregate: Aggregate, held: Held, more: Held) -> Held
     }
 }
 
-// One place of two rows merged.
-fn merged_cell(aggregates: &[Aggregate], held: &[Held], more: &[Held], place: usize) -> Held
-    requires place { place < length aggregates.now }
+// One position of two rows merged.
+fn merged_cell(aggregates: &[Aggregate], held: &[Held], more: &[Held], index: usize) -> Held
+    requires index { index < length aggregates.now }
     requires held { length aggregates.now ≤ length held.now }
     requires more { length aggregates.now ≤ length more.now }
-    requires stays { leaves (slice_index_or aggregates.now place Count)
-        (merged_at aggregates.now held.now more.now place) ≡ false }
-    ensures { result ≡ merged_at aggregates.now held.now more.now place }
+    requires stays { leaves (slice_index_or aggregates.now index Count)
+        (merged_at aggregates.now held.now more.now index) ≡ false }
+    ensures { result ≡ merged_at aggregates.now held.now more.now index }
 {
-    merged(aggregates[place], held[place], more[place])
+    merged(aggregates[index], held[index], more[index])
 }
 
 // A row merged into another.
@@ -45,8 +44,8 @@ pub(crate) fn merge_into(aggregates: &[Aggregate], held: &mut [Held], more: &[He
     ensures row { IsMerged aggregates.now held.old more.now held.new }
     ensures len { length held.new ≡ length held.old }
 {
-    for place in 0..aggregates.len() {
-        held[place] = merged_cell(aggregates, held, more, place);
+    for index in 0..aggregates.len() {
+        held[index] = merged_cell(aggregates, held, more, index);
     }
 }
 
@@ -82,30 +81,30 @@ fn stays(aggregate: Aggregate, held: i128, more: i128) -> bool
     }
 }
 
-// The number at a place of a row, and 0 if there is none.
-fn number_in(held: Option<&[Held]>, place: usize) -> i128
-    requires { MatchOption held (Unit {0}) (λ row. place < length row.now) }
-    ensures { unwrap_or (slice_index_or (unwrap_or (option_copied held.entry) []) place None)
+// The number at a position of a row, and 0 if there is none.
+fn number_in(held: Option<&[Held]>, index: usize) -> i128
+    requires { MatchOption held (Unit {0}) (λ row. index < length row.now) }
+    ensures { unwrap_or (slice_index_or (unwrap_or (option_copied held.entry) []) index None)
         (pos 0) ≡ result }
 {
     match held {
-        Some(row) => row[place].number(),
+        Some(row) => row[index].number(),
         None => 0,
     }
 }
 
-// Whether one place of a row, or of none, doesn't leave its bits with one more row merged in.
-fn cell_stays(aggregates: &[Aggregate], held: Option<&[Held]>, more: &[Held], place: usize) -> bool
-    requires place { place < length aggregates.now }
+// Whether one position of a row, or of none, doesn't leave its bits with one more row merged in.
+fn cell_stays(aggregates: &[Aggregate], held: Option<&[Held]>, more: &[Held], index: usize) -> bool
+    requires index { index < length aggregates.now }
     requires held { MatchOption held (Unit {0}) (λ row. length aggregates.now ≤ length row.now) }
     requires more { length aggregates.now ≤ length more.now }
-    ensures { result ≡ not (leaves (slice_index_or aggregates.now place Count)
-        (merged_at aggregates.now (unwrap_or (option_copied held.entry) []) more.now place)) }
+    ensures { result ≡ not (leaves (slice_index_or aggregates.now index Count)
+        (merged_at aggregates.now (unwrap_or (option_copied held.entry) []) more.now index)) }
 {
     stays(
-        aggregates[place],
-        number_in(held, place),
-        more[place].number(),
+        aggregates[index],
+        number_in(held, index),
+        more[index].number(),
     )
 }
 
@@ -117,8 +116,8 @@ pub(crate) fn row_stays(aggregates: &[Aggregate], held: Option<&[Held]>, more: &
         (MergeStays aggregates.now (unwrap_or (option_copied held.entry) []) more.now)
         (MergeLeaves aggregates.now (unwrap_or (option_copied held.entry) []) more.now) }
 {
-    for place in 0..aggregates.len() {
-        if !cell_stays(aggregates, held, more, place) {
+    for index in 0..aggregates.len() {
+        if !cell_stays(aggregates, held, more, index) {
             return false;
         }
     }
@@ -142,8 +141,8 @@ pub(crate) fn row_of_put(aggregates: &[Aggregate], values: &[i64]) -> Row
     ensures { IsRowOfOnePut aggregates.now values.now result }
 {
     let mut row = [Held::new(0); 8];
-    for place in 0..aggregates.len() {
-        row[place] = Held::new(cell_of(aggregates[place], values[place]));
+    for index in 0..aggregates.len() {
+        row[index] = Held::new(cell_of(aggregates[index], values[index]));
     }
     row
 }

@@ -1,13 +1,11 @@
 // Rows by their keys: making, finding and changing them.
 
-ghost use Rattle.std.specs.Prelude.{◌≡◌, ◌≤◌, ◌+◌, ◌++◌, ◌∷◌, ℕ, [], length, max, take, IfOk, IsOk, MatchOption, OnErr, OnOk};
-ghost use Rattle.std.specs.{Option.option_copied};
-ghost use Rattle.star_group.specs.Private.Numbers.{AreAsWide, FitsIn, HasSpace, IsNarrow, keys_in};
-ghost use Rattle.star_group.specs.{Base.key_view, Base.row_found, Entries.entries_of, Private.Merged.IsMergedAt, Private.Merged.RowsStay, Private.Tries.IsMissing};
+ghost use Rattle.std.specs.{Prelude.{◌≡◌, ◌≤◌, ◌+◌, ◌++◌, ◌∷◌, ℕ, [], length, max, take, IfOk, IsOk, MatchOption, OnErr, OnOk}, Option.option_copied};
+ghost use Rattle.star_group.specs.{Private.Numbers.{AreAsWide, FitsIn, HasSpace, IsNarrow, keys_in}, Base.{key_view, row_found}, Entries.entries_of, Private.Merged.{IsMergedAt, RowsStay}, Private.Tries.IsMissing};
 
 use super::cells::merge_at;
 use super::key::OrderedKey;
-use super::trie::Place;
+use super::trie::Slot;
 use super::{KeyedRows, ListedRows};
 use crate::cell::Held;
 use star_schema::Aggregate;
@@ -46,8 +44,8 @@ impl KeyedRows {
             (λ row. length row.now ≡ self.now.listed.aggregate_count) }
     {
         match self.find(&key[..self.listed.width]) {
-            Place::Held(number) => Some(self.listed.row(number)),
-            Place::Missing { .. } => None,
+            Slot::Held(number) => Some(self.listed.row(number)),
+            Slot::Missing { .. } => None,
         }
     }
 
@@ -110,7 +108,7 @@ impl KeyedRows {
         ensures widths { AreAsWide self.old self.new }
     {
         match self.find(&key[..self.listed.width]) {
-            Place::Held(number) => {
+            Slot::Held(number) => {
                 let count = self.listed.len;
                 merge_at(
                     self.listed.cells.as_mut_slice(),
@@ -121,7 +119,7 @@ impl KeyedRows {
                 );
                 Ok(())
             }
-            Place::Missing { node, digit } => {
+            Slot::Missing { node, digit } => {
                 let aggregate_count = self.listed.aggregate_count;
                 self.push(node, digit, key, &more[..aggregate_count])
             }

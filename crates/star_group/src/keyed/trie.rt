@@ -2,9 +2,8 @@
 
 ghost use Rattle.std.specs.Prelude.{◌≡◌, ◌<◌, ◌*◌, length, slice_index_or, MatchBool};
 ghost use Rattle.star_program.specs.Rows.{cut};
-ghost use Rattle.star_group.specs.Private.Numbers.{keys_in};
+ghost use Rattle.star_group.specs.Private.{Numbers.keys_in, Tries.{IsKeyFound, child, key_at, part_digit, word_from}};
 ghost use Rattle.star_group.specs.Private.Tries as spec;
-ghost use Rattle.star_group.specs.Private.Tries.{IsKeyFound, child, key_at, part_digit, word_from};
 
 use super::KeyedRows;
 use super::key::KeyPart;
@@ -43,21 +42,21 @@ fn part_digit_at(part: KeyPart, round: usize) -> usize
     }
 }
 
-// The digit of a key in this round and at this place.
-fn key_digit(key: &[KeyPart], round: usize, place: usize) -> usize
-    requires within { place < length key.now }
-    ensures digit { result ≡ part_digit (slice_index_or key.now place KeyPart.All) round }
+// The digit of a key in this round and at this position.
+fn key_digit(key: &[KeyPart], round: usize, index: usize) -> usize
+    requires within { index < length key.now }
+    ensures digit { result ≡ part_digit (slice_index_or key.now index KeyPart.All) round }
     ensures few { result < 4 }
 {
-    part_digit_at(key[place], round)
+    part_digit_at(key[index], round)
 }
 
-// A word with the part at a place after it.
-fn word_with(word: u64, key: &[KeyPart], place: usize) -> u64
-    requires { place < length key.now }
-    ensures { result ≡ spec.word_with word (slice_index_or key.now place KeyPart.All) }
+// A word with the part at a position after it.
+fn word_with(word: u64, key: &[KeyPart], index: usize) -> u64
+    requires { index < length key.now }
+    ensures { result ≡ spec.word_with word (slice_index_or key.now index KeyPart.All) }
 {
-    word.wrapping_mul(31).wrapping_add(bits_of(key[place]))
+    word.wrapping_mul(31).wrapping_add(bits_of(key[index]))
 }
 
 // All parts in one word: keys whose parts are small have words of their own.
@@ -65,8 +64,8 @@ fn word_of(key: &[KeyPart]) -> u64
     ensures { result ≡ word_from 0 key.now }
 {
     let mut word = 0;
-    for place in 0..key.len() {
-        word = word_with(word, key, place);
+    for index in 0..key.len() {
+        word = word_with(word, key, index);
     }
     word
 }
@@ -104,7 +103,7 @@ fn digit_at(word: u64, key: &[KeyPart], depth: usize) -> usize
 
 // The node that a key's digits lead to.
 #[derive(Clone, Copy)]
-pub(super) enum Place {
+pub(super) enum Slot {
     Held(usize),
     Missing { node: usize, digit: usize },
 }
@@ -128,8 +127,8 @@ fn has_key(keys: &[KeyPart], width: usize, count: usize, number: usize, key: &[K
 }
 
 impl KeyedRows {
-    // The place of this key's row, or of a new one.
-    pub(super) fn find(&self, key: &[KeyPart]) -> Place
+    // The position of this key's row, or of a new one.
+    pub(super) fn find(&self, key: &[KeyPart]) -> Slot
         requires { length key.now ≡ self.now.listed.width }
         ensures { IsKeyFound self.now.listed.width (keys_in self.now) self.now.links.items key.now
             result }
@@ -141,10 +140,10 @@ impl KeyedRows {
             let digit = digit_at(word, key, depth);
             let next = child_at(self.links.as_slice(), node, digit);
             if next == 0 {
-                return Place::Missing { node, digit };
+                return Slot::Missing { node, digit };
             }
             if has_key(self.listed.keys.as_slice(), width, len, next - 1, key) {
-                return Place::Held(next - 1);
+                return Slot::Held(next - 1);
             }
             node = next;
         }

@@ -1,8 +1,7 @@
 -- Rows of groups added up: rows with equal keys become one.
-use Rattle.std.specs.Prelude.{◌≡◌, ◌++◌, ℕ, ℤ, List, [], ◌∷◌, All, Bool, false, Option, None, filter, map, replicate, reverse, if◌then◌else◌}
-use Rattle.std.specs.{List.list_any, declared.cmp.Ordering.Ordering}
+use Rattle.std.specs.{Prelude.{◌≡◌, ◌≤◌, ◌<◌, ◌^◌, ◌+◌, ◌++◌, ℕ, ℤ, List, [], ◌∷◌, All, Bool, false, Option, None, filter, map, replicate, reverse, slice_index_or, if◌then◌else◌}, List.{list_any, sum_by}, declared.cmp.Ordering.Ordering}
 use Rattle.star_schema.specs.{declared.group.Aggregate.Aggregate, declared.group.Shape.Shape, Groups.GroupRow, Groups.is_grouping, Groups.totals_of, Tables.Value, Order.value_cmp}
-use Rattle.star_merge.specs.declared.merging.Merging.{Merging}
+use Rattle.star_merge.specs.{declared.merging.Merging.Merging, Merged.{distance, reach}}
 use Rattle.star_merge_laws.specs.{Merging.merged_totals, Merging.total_over, Regrouping.all_added, Regrouping.are_same}
 use Rattle.star_program.specs.Puts.{masks}
 
@@ -31,8 +30,8 @@ alone {K} gs row =
     record { keys = row.keys; totals = merged_totals gs row.totals (totals_of {K = K} gs []) }
 
 -- a row before others: if the first has the same keys, it is merged into that
-abbrev pub onto : {K : Type 0} → (K → K → Ordering) → List Aggregate → GroupRow K → List (GroupRow K)
-    → List (GroupRow K)
+abbrev pub onto : {K : Type 0} → (K → K → Ordering) → List Aggregate → GroupRow K
+    → List (GroupRow K) → List (GroupRow K)
 onto cmp gs row [] = alone gs row ∷ []
 onto cmp gs row (next ∷ rows) =
     if are_same cmp row.keys next.keys
@@ -72,8 +71,32 @@ empty_total {K} s count gs =
     else []
 
 -- all rows that are added up for some plain groups
-abbrev pub addends : {K : Type 0} → Shape → ℕ → List Aggregate → List (GroupRow K) → List (GroupRow K)
+abbrev pub addends : {K : Type 0} → Shape → ℕ → List Aggregate → List (GroupRow K)
+    → List (GroupRow K)
 addends s count gs groups = empty_total s count gs ++ all_added s groups
+
+-- two totals at an index can be added within 128 bits
+abbrev pub AddUpSmall : List (Option ℤ) → List (Option ℤ) → Type 0
+AddUpSmall totals more =
+    (index : ℕ) → distance (slice_index_or totals index None)
+    + distance (slice_index_or more index None) < 2 ^ 127
+
+-- the reach of the groups with these keys
+abbrev pub reach_at : (keys : List (Option Value)) → (index : ℕ) → List (GroupRow Value) → ℕ
+reach_at keys index groups =
+    sum_by (λ group. if are_same value_cmp keys group.keys
+    then distance (slice_index_or group.totals index None) else 0) groups
+
+-- the groups of each key list are small
+abbrev pub AreSmallByKeys : List (GroupRow Value) → Type 0
+AreSmallByKeys groups =
+    (keys : List (Option Value)) (index : ℕ) → reach_at keys index groups < 2 ^ 127
+
+-- the groups of each key list reach no farther than before
+abbrev pub ReachNoFarther : (groups before : List (GroupRow Value)) → Type 0
+ReachNoFarther groups before =
+    (keys : List (Option Value)) (index : ℕ)
+    → reach_at keys index groups ≤ reach_at keys index before
 
 -- the groups so far, of some given groups
 pub record HasMerged (s : Shape) (keys : ℕ) (gs : List Aggregate) (told : List (GroupRow Value))
@@ -82,6 +105,8 @@ pub record HasMerged (s : Shape) (keys : ℕ) (gs : List Aggregate) (told : List
   pub count : merging.count ≡ keys
   pub aggregates : merging.aggregates.items ≡ gs
   pub alike : AddUpAlike value_cmp gs merging.groups.items (addends s keys gs told)
+  pub within : (keys : List (Option Value)) (index : ℕ)
+      → reach_at keys index merging.groups.items ≤ reach index told
 
 -- neighbours of the last of some groups are merged, in reverse order
 pub record HasJoined (gs : List Aggregate) (groups rest merged : List (GroupRow Value)) : Type 0

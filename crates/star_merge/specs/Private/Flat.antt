@@ -1,7 +1,6 @@
 -- Cells in flat storage: a number and a text for each.
 use Rattle.std.specs.Prelude.{◌≡◌, ◌≤◌, ℕ, ℤ, List, [], ◌∷◌, length, take}
-use Rattle.star_program.specs.declared.outcome.Cell.{Cell}
-use Rattle.star_program.specs.declared.outcome.Cell.TheVariants.{Number, Text}
+use Rattle.star_program.specs.declared.outcome.Cell.{Cell, TheVariants.{Number, Text}}
 
 -- a text with a byte is itself; without one, the number is the cell
 abbrev pub flat_cell : ℤ → List ℕ → Cell

@@ -1,16 +1,14 @@
 -- The order by which merged groups are sorted. It orders all rows, with NULL before the numbers; if
 -- rows have the same NULLs, it is the order of a report.
-use Rattle.std.specs.Prelude.{List, [], ◌∷◌, Bool, None, map, slice_index_or}
-use Rattle.std.specs.{Cmp.Lexicographic.slice_cmp, Option.is_some, Option.option_cmp, Ordering.int_cmp, Ordering.ordering_then, declared.cmp.Ordering.Ordering}
-use Rattle.star_schema.specs.{declared.group.GroupColumn.GroupColumn, declared.group.Direction.Direction, declared.group.Direction.TheVariants.Ascending, declared.group.Direction.TheVariants.Descending, declared.group.SortKey.SortKey, Groups.GroupRow, Order.key_cmp, Order.value_cmp}
-use Rattle.star_schema.specs.{Tables.Value}
+use Rattle.std.specs.{Prelude.{List, [], ◌∷◌, Bool, None, map, slice_index_or}, Cmp.Lexicographic.slice_cmp, Option.{is_some, option_cmp}, Ordering.{int_cmp, ordering_then}, declared.cmp.Ordering.Ordering}
+use Rattle.star_schema.specs.{declared.group.GroupColumn.GroupColumn, declared.group.Direction.Direction, declared.group.Direction.TheVariants.{Ascending, Descending}, declared.group.SortKey.SortKey, Groups.GroupRow, Order.{key_cmp, value_cmp}, Tables.Value}
 use Rattle.star_schema.specs.declared.group.GroupColumn.TheVariants as column
 
 abbrev pub column_order : GroupColumn → GroupRow Value → GroupRow Value → Ordering
-column_order (column.Key place) a b =
-    key_cmp value_cmp (slice_index_or a.keys place None) (slice_index_or b.keys place None)
-column_order (column.Aggregate place) a b =
-    option_cmp int_cmp (slice_index_or a.totals place None) (slice_index_or b.totals place None)
+column_order (column.Key index) a b =
+    key_cmp value_cmp (slice_index_or a.keys index None) (slice_index_or b.keys index None)
+column_order (column.Aggregate index) a b =
+    option_cmp int_cmp (slice_index_or a.totals index None) (slice_index_or b.totals index None)
 
 abbrev pub directed_order : GroupColumn → Direction → GroupRow Value → GroupRow Value → Ordering
 directed_order c Ascending a b = column_order c a b

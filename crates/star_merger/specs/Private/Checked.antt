@@ -1,14 +1,12 @@
 -- What is checked of partials before anything is written.
 use Rattle.std.specs.Prelude.{◌≡◌, ◌≢◌, ◌<◌, ◌≤◌, ◌^◌, ℕ, Bool, false, true, List, None, Option, Some, length, slice_index_or}
-use Rattle.star_schema.specs.declared.table.TableId.TheVariants.{Lineorder}
-use Rattle.star_schema.specs.{declared.column.ColumnId.ColumnId, declared.table.TableId.TableId, Columns.bounds_in, Database.Database, Database.rows_in, Schema.table_of, Sizes.size_of}
+use Rattle.star_schema.specs.{declared.table.TableId.TheVariants.Lineorder, declared.column.ColumnId.ColumnId, declared.table.TableId.TableId, Columns.bounds_in, Database.{Database, rows_in}, Schema.table_of, Sizes.size_of}
 use Rattle.star_catalogue.specs.declared.fault.LoadFault.TheVariants.{TooManyRows}
 use Rattle.star_partial.specs.Contents.{Contents, bounds_at}
 use Rattle.star_merge_laws.specs.Parts.{Span, are_disjoint}
 use Rattle.star_verify.specs.declared.facts.Facts.{Facts}
 use Rattle.star_engine.specs.{declared.fault.EngineFault.TheVariants.Load, Queries.fact_rows}
-use Rattle.star_merger.specs.declared.fault.{PartialsFault.PartialsFault, PartialsFault.TheVariants.Engine}
-use Rattle.star_merger.specs.{Merged.IsOverlap, Private.Shown.HasFacts}
+use Rattle.star_merger.specs.{declared.fault.PartialsFault.PartialsFault, declared.fault.PartialsFault.TheVariants.Engine, Merged.IsOverlap, Private.Shown.HasFacts}
 
 -- a partial shows the dimensions of a database
 pub record HasDimensions (hash : List ℕ) (database : Database) (contents : Contents) : Type 0
@@ -32,8 +30,8 @@ AreFactsWithin most database (Some facts) =
 
 abbrev pub AreDisjointSpans : List (Option Span) → Type 0
 AreDisjointSpans spans =
-    (place other : ℕ) → other < place → place < length spans
-    → are_disjoint (slice_index_or spans other None) (slice_index_or spans place None) ≡ true
+    (index other : ℕ) → other < index → index < length spans
+    → are_disjoint (slice_index_or spans other None) (slice_index_or spans index None) ≡ true
 
 -- the facts of all parts, whose spans are disjoint unless the keys are vouched for
 pub record AreChecked (most : ℕ) (database : Database) (is_distinct : Bool)

@@ -20,7 +20,8 @@ contents_of_shares shares = map (λ share. share.contents) shares
 -- each partial is that of the query over these rows, with the dimensions of a database
 abbrev pub AreShares : (most : ℕ) → Database → (query : List ℕ) → List Share → Type 0
 AreShares most database query shares =
-    All (λ share. IsPartialOver most (with_lineorder database share.rows) query share.contents) shares
+    All (λ share. IsPartialOver most (with_lineorder database share.rows) query share.contents)
+    shares
 
 -- the tables with all parts of lineorder
 abbrev pub whole_of : Database → List Share → Database

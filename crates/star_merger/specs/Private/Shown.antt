@@ -1,8 +1,7 @@
 -- What partials show: their facts, the rows of their reports, and their counts.
 use Rattle.std.specs.Prelude.{◌≡◌, ◌+◌, ℕ, List, [], ◌∷◌, Option, Some, None, length}
 use Rattle.star_interval.specs.Range.{Range}
-use Rattle.star_schema.specs.declared.table.TableId.TheVariants.{Lineorder}
-use Rattle.star_schema.specs.{declared.column.ColumnId.ColumnId, declared.table.TableId.TableId, Columns.bounds_in, Database.Database, Database.rows_in}
+use Rattle.star_schema.specs.{declared.table.TableId.TheVariants.Lineorder, declared.column.ColumnId.ColumnId, declared.table.TableId.TableId, Columns.bounds_in, Database.{Database, rows_in}}
 use Rattle.star_program.specs.{declared.outcome.Cell.Cell, declared.outcome.Outcome.Outcome}
 use Rattle.star_partial.specs.Contents.{Contents}
 use Rattle.star_merge_laws.specs.Parts.{with_lineorder}

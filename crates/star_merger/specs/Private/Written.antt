@@ -6,8 +6,7 @@ use Rattle.star_partial.specs.Contents.{Contents}
 use Rattle.star_report.specs.Report.{report_text}
 use Rattle.star_verify.specs.declared.refusal.Refusal.{Refusal}
 use Rattle.star_engine.specs.{declared.fault.EngineFault.EngineFault, declared.fault.EngineFault.TheVariants.Write, Answered.Change, Answered.HasGained, Faults.fault_of_refusal, WithNotes.RunText, Notes.counts_line, Private.Steps.IsPart}
-use Rattle.star_merger.specs.declared.fault.{PartialsFault.PartialsFault, PartialsFault.TheVariants.Engine}
-use Rattle.star_merger.specs.Private.Outcomes.{IsMergedOutcome}
+use Rattle.star_merger.specs.{declared.fault.PartialsFault.PartialsFault, declared.fault.PartialsFault.TheVariants.Engine, Private.Outcomes.IsMergedOutcome}
 
 -- the text of an outcome, with the note of its quote
 abbrev pub run_text_of : (note : List ℕ) → Outcome → RunText

@@ -1,9 +1,7 @@
 -- Rows whose keys can be shown as texts, and their cells.
-use Rattle.std.specs.Prelude.{◌≡◌, List, [], ◌∷◌, Option, Some, None, map}
-use Rattle.std.specs.{List.AllByRecursion}
+use Rattle.std.specs.{Prelude.{◌≡◌, List, [], ◌∷◌, Option, Some, None, map}, List.AllByRecursion}
 use Rattle.star_schema.specs.{Database.Database, declared.group.SortKey.SortKey, Groups.AreGroups, Groups.GroupRow as Row, Order.AreInOrder, Tables.Value}
-use Rattle.star_program.specs.{declared.group.GroupDecl.GroupDecl, declared.group.GroupKey.GroupKey, declared.key.KeyValue.KeyValue, declared.outcome.Cell.Cell, declared.program.Parts.Parts, declared.program.Show.Show, Faults.group_at, Keys.key_value_cmp, Outcome.AreReportRows}
-use Rattle.star_program.specs.{Outcome.decoded_row, Outcome.shown_cells, RowCells.cell_of, Puts.Update, World.World}
+use Rattle.star_program.specs.{declared.group.GroupDecl.GroupDecl, declared.group.GroupKey.GroupKey, declared.key.KeyValue.KeyValue, declared.outcome.Cell.Cell, declared.program.Parts.Parts, declared.program.Show.Show, Faults.group_at, Keys.key_value_cmp, Outcome.{AreReportRows, decoded_row, shown_cells}, RowCells.cell_of, Puts.Update, World.World}
 use Rattle.star_group.specs.{StoreRows.AreRows, Stores.Group, Stores.group_declared}
 use Rattle.star_outcome.specs.SoundKeys.{AreSoundKeys, IsSoundKey}
 

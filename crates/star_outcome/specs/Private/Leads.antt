@@ -1,6 +1,5 @@
 -- What a row has in the two columns by which it is compared first, as numbers of 64 bits.
-use Rattle.std.specs.Prelude.{ℕ, ℤ, pos, negsuc, ◌+ℤ◌, ◌-ℤ◌, Bool, ◌||◌, not, int_lt, List, [], ◌∷◌, Option, Some, None, slice_index_or, if◌then◌else◌}
-use Rattle.std.specs.{Int.int_min, Int.int_max, Ordering.int_cmp, Ordering.int_eq, Ordering.ordering_then, declared.cmp.Ordering.Ordering}
+use Rattle.std.specs.{Prelude.{ℕ, ℤ, pos, negsuc, ◌+ℤ◌, ◌-ℤ◌, Bool, ◌||◌, not, int_lt, List, [], ◌∷◌, Option, Some, None, slice_index_or, if◌then◌else◌}, Int.{int_min, int_max}, Ordering.{int_cmp, int_eq, ordering_then}, declared.cmp.Ordering.Ordering}
 use Rattle.star_schema.specs.{declared.group.GroupColumn.GroupColumn, declared.group.Direction.Direction, declared.group.Direction.TheVariants.Ascending, declared.group.Direction.TheVariants.Descending, declared.group.SortKey.SortKey, Groups.GroupRow as Row}
 use Rattle.star_program.specs.declared.key.KeyValue.{KeyValue}
 use Rattle.star_group.specs.StoreRows.{row_at}
@@ -8,7 +7,8 @@ use Rattle.star_outcome.specs.{Private.RowOrder.row_order, declared.outcome.lead
 use Rattle.star_schema.specs.declared.group.GroupColumn.TheVariants as column
 use Rattle.star_program.specs.declared.key.KeyValue.TheVariants as key
 
--- NULL comes first, then numbers, codes, and ALL last; numbers beyond an end have the lead of the end
+-- NULL comes first, then numbers, codes, and ALL last; numbers beyond an end have the lead of the
+-- end
 abbrev pub null_lead : ℤ
 null_lead = negsuc 9223372036854775807
 
@@ -45,8 +45,8 @@ total_lead None = null_lead
 total_lead (Some x) = number_lead x
 
 abbrev pub column_lead : GroupColumn → Row KeyValue → ℤ
-column_lead (column.Key place) row = key_lead (slice_index_or row.keys place None)
-column_lead (column.Aggregate place) row = total_lead (slice_index_or row.totals place None)
+column_lead (column.Key index) row = key_lead (slice_index_or row.keys index None)
+column_lead (column.Aggregate index) row = total_lead (slice_index_or row.totals index None)
 
 -- descending, the greater value is less
 abbrev pub directed : Direction → ℤ → ℤ

@@ -1,7 +1,6 @@
 // The cells of a report: rows with texts for codes, cut to the show lines.
 
-ghost use Rattle.std.specs.Prelude.{◌≡◌, ◌<◌, ◌++◌, IfOk, OnOk, All, length, map, true};
-ghost use Rattle.std.specs.{List.flat_map, Option.option_map};
+ghost use Rattle.std.specs.{Prelude.{◌≡◌, ◌<◌, ◌++◌, IfOk, OnOk, All, length, map, true}, List.flat_map, Option.option_map};
 ghost use Rattle.star_schema.specs.{Schema.kind_of, Columns.column_dictionary};
 ghost use Rattle.star_group.specs.StoreRows.{row_at};
 ghost use Rattle.star_program.specs.{Outcome.decoded, Outcome.decoded_row, RowCells.cell_of, ShowLines.has_column};
@@ -40,8 +39,7 @@ fn key_cell(
     key: Option<KeyValue>,
 ) -> Result<Cell, AllocError>
     requires { IsDecodable catalogue.now declared key }
-    ensures { IfOk result
-        (λ cell. cell
+    ensures { IfOk result (λ cell. cell
         ≡ row_cells.key_cell (option_map (decoded (world_of catalogue.now) declared) key)) }
 {
     match (key, declared) {
@@ -75,19 +73,18 @@ fn cell(
 ) -> Result<Cell, AllocError>
     requires keys { AreDecodable catalogue.now declared.now.keys (row_at rows.now number).keys }
     requires column { has_column declared.now column ≡ true }
-    ensures { IfOk result
-        (λ cell. cell
+    ensures { IfOk result (λ cell. cell
         ≡ cell_of (decoded_row (world_of catalogue.now) declared.now
         (row_at rows.now number)) column) }
 {
     match column {
-        GroupColumn::Key(place) => key_cell(
+        GroupColumn::Key(index) => key_cell(
             alloc,
             catalogue,
-            declared.keys.as_slice()[place as usize],
-            rows.key(number, place as usize),
+            declared.keys.as_slice()[index as usize],
+            rows.key(number, index as usize),
         ),
-        GroupColumn::Aggregate(place) => Ok(total_cell(rows.aggregate(number, place as usize))),
+        GroupColumn::Aggregate(index) => Ok(total_cell(rows.aggregate(number, index as usize))),
     }
 }
 
@@ -103,8 +100,7 @@ fn push_cells(
 ) -> Result<(), AllocError>
     requires keys { AreDecodable catalogue.now declared.now.keys (row_at rows.now number).keys }
     requires columns { All (λ show. has_column declared.now show.column ≡ true) shows.now }
-    ensures { OnOk result
-        (cells.new.items ≡ cells.old.items
+    ensures { OnOk result (cells.new.items ≡ cells.old.items
         ++ row_cells (world_of catalogue.now) declared.now shows.now (row_at rows.now number)) }
 {
     for show in shows {
@@ -126,8 +122,7 @@ fn all_cells(
     requires keys { All (λ number. AreDecodable catalogue.now declared.now.keys
         (row_at rows.now number).keys) numbers.now }
     requires columns { All (λ show. has_column declared.now show.column ≡ true) shows.now }
-    ensures { IfOk result
-        (λ cells. cells.items
+    ensures { IfOk result (λ cells. cells.items
         ≡ flat_map (λ number. row_cells (world_of catalogue.now) declared.now shows.now
         (row_at rows.now number)) numbers.now) }
 {
@@ -153,8 +148,7 @@ pub(super) fn cell_rows(
     requires keys { All (λ number. AreDecodable catalogue.now declared.now.keys
         (row_at rows.now number).keys) numbers.now }
     requires columns { All (λ show. has_column declared.now show.column ≡ true) shows.now }
-    ensures { IfOk result
-        (λ table. table
+    ensures { IfOk result (λ table. table
         ≡ map (λ number. row_cells (world_of catalogue.now) declared.now shows.now
         (row_at rows.now number)) numbers.now) }
 {

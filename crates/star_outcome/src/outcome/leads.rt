@@ -83,8 +83,8 @@ fn column_lead(column: GroupColumn, rows: &GroupRows, number: usize) -> i64
     ensures { result ≡ spec.column_lead column (row_at rows.now number) }
 {
     match column {
-        GroupColumn::Key(place) => key_lead(rows.key(number, place as usize)),
-        GroupColumn::Aggregate(place) => total_lead(rows.aggregate(number, place as usize)),
+        GroupColumn::Key(index) => key_lead(rows.key(number, index as usize)),
+        GroupColumn::Aggregate(index) => total_lead(rows.aggregate(number, index as usize)),
     }
 }
 

@@ -1,7 +1,6 @@
 // The order of a group's rows.
 
-ghost use Rattle.std.specs.Prelude.{◌≡◌, ◌≤◌, List, IfOk, length, map};
-ghost use Rattle.std.specs.{List.AllByRecursion};
+ghost use Rattle.std.specs.{Prelude.{◌≡◌, ◌≤◌, List, IfOk, length, map}, List.AllByRecursion};
 ghost use Rattle.star_schema.specs.Order.{key_cmp};
 ghost use Rattle.star_group.specs.{StoreRows.AreRows, StoreRows.row_at, Stores.Group};
 ghost use Rattle.star_program.specs.{Keys.key_value_cmp, Puts.Update};
@@ -26,7 +25,7 @@ fn compare_values(a: KeyValue, b: KeyValue) -> Ordering
     }
 }
 
-// Keys of one place: ALL comes after every value.
+// Keys of one position: ALL comes after every value.
 fn compare_keys(a: Option<KeyValue>, b: Option<KeyValue>) -> Ordering
     ensures { result ≡ key_cmp key_value_cmp a b }
 {
@@ -41,23 +40,21 @@ fn compare_keys(a: Option<KeyValue>, b: Option<KeyValue>) -> Ordering
 // In code this orders all rows, with NULL before the numbers. In the definition NULL meets no other
 // row: an aggregate is NULL in all rows of a group or in none.
 fn compare_at(column: GroupColumn, rows: &GroupRows, a: usize, b: usize) -> Ordering
-    ensures { result ≡ column_order column
-        (row_at rows.now a) (row_at rows.now b) }
+    ensures { result ≡ column_order column (row_at rows.now a) (row_at rows.now b) }
 {
     match column {
-        GroupColumn::Key(place) => {
-            compare_keys(rows.key(a, place as usize), rows.key(b, place as usize))
+        GroupColumn::Key(index) => {
+            compare_keys(rows.key(a, index as usize), rows.key(b, index as usize))
         }
-        GroupColumn::Aggregate(place) => {
-            rows.aggregate(a, place as usize)
-                .cmp(&rows.aggregate(b, place as usize))
+        GroupColumn::Aggregate(index) => {
+            rows.aggregate(a, index as usize)
+                .cmp(&rows.aggregate(b, index as usize))
         }
     }
 }
 
 fn compare_by(sort: SortKey, rows: &GroupRows, a: usize, b: usize) -> Ordering
-    ensures { result ≡ sort_order sort
-        (row_at rows.now a) (row_at rows.now b) }
+    ensures { result ≡ sort_order sort (row_at rows.now a) (row_at rows.now b) }
 {
     match sort.direction {
         Direction::Ascending => compare_at(sort.column, rows, a, b),
@@ -66,8 +63,7 @@ fn compare_by(sort: SortKey, rows: &GroupRows, a: usize, b: usize) -> Ordering
 }
 
 fn compare_rows(sorts: &[SortKey], rows: &GroupRows, a: usize, b: usize) -> Ordering
-    ensures { result ≡ row_order sorts.now
-        (row_at rows.now a) (row_at rows.now b) }
+    ensures { result ≡ row_order sorts.now (row_at rows.now a) (row_at rows.now b) }
 {
     match sorts {
         [] => Ordering::Equal,
@@ -94,9 +90,9 @@ fn all_sorts(alloc: Global, sorts: &[SortKey], count: usize) -> Result<Vec<SortK
     ensures { IfOk result (λ all. all.items ≡ spec.all_sorts sorts.now count) }
 {
     let mut all = sorts.to_vec(alloc)?;
-    for place in 0..count {
+    for index in 0..count {
         all.push(SortKey {
-            column: GroupColumn::Key(place as u16),
+            column: GroupColumn::Key(index as u16),
             direction: Direction::Ascending,
         })?;
     }

@@ -1,14 +1,9 @@
 -- The parts of a query's uses and of its first fault, as the planner goes through them.
-use Rattle.std.specs.Prelude.{ℕ, ◌+◌, ◌||◌, ◌&&◌, ◌++◌, true, List, length, map, Option, Some, None, if◌then◌else◌}
-use Rattle.std.specs.{List.flat_map, Option.option_or}
+use Rattle.std.specs.{Prelude.{ℕ, ◌+◌, ◌||◌, ◌&&◌, ◌++◌, true, List, length, map, Option, Some, None, if◌then◌else◌}, List.flat_map, Option.option_or}
 use Rattle.star_common.specs.First.{first_answer}
 use Rattle.star_schema.specs.{declared.column.ColumnId.ColumnId, declared.column.Kind.Kind, declared.group.GroupColumn.GroupColumn, Tables.Value, Tables.kind_of_value}
-use Rattle.star_query.specs.Tree.{Aggregate, Condition, Item, Measure, Name, SortKey, Test, aggregate, plain}
-use Rattle.star_query.specs.{Leaves.of_tests}
-use Rattle.star_plan.specs.Naming.{aggregate_names, has_text, key_column, name_of_aggregate, name_place}
-use Rattle.star_plan.specs.Faults.{aggregates_fault, fact_fault, from_table_fault, group_fault, item_fault, key_fault, missing_fault, pair_fault, scope_fault, use_kind_fault}
-use Rattle.star_plan.specs.{declared.fault.PlanFault.PlanFault, declared.fault.PlanFault.TheVariants.DuplicateAlias, First.first_beside, Joins.Pair, Names.has_name, Names.is_of, Uses.Use, Uses.item_uses, Uses.test_uses, Uses.use_when, Resolved.measures_of, Resolved.option_all}
-use Rattle.star_plan.specs.{Resolved.resolved_measure}
+use Rattle.star_query.specs.{Tree.{Aggregate, Condition, Item, Measure, Name, SortKey, Test, aggregate, plain}, Leaves.of_tests}
+use Rattle.star_plan.specs.{Naming.{aggregate_names, has_text, key_column, name_of_aggregate, name_offset}, Faults.{aggregates_fault, fact_fault, from_table_fault, group_fault, item_fault, key_fault, missing_fault, pair_fault, scope_fault, use_kind_fault}, declared.fault.PlanFault.PlanFault, declared.fault.PlanFault.TheVariants.DuplicateAlias, First.first_beside, Joins.Pair, Names.{has_name, is_of}, Uses.{Use, item_uses, test_uses, use_when}, Resolved.{measures_of, option_all, resolved_measure}}
 use Rattle.star_schema.specs.declared.group.GroupColumn.TheVariants as group
 
 -- ---- the columns that a query names
@@ -47,8 +42,9 @@ resolved_measures items = option_all resolved_measure (measures_of items)
 -- an aggregate's name is that of one before it, or a group column's
 abbrev pub alias_fault : List Name → List (List ℕ) → Aggregate → Option PlanFault
 alias_fault groups names a =
-    if has_text names (name_of_aggregate (length names + 1) a) || has_name groups (name_of_aggregate (length names + 1) a)
-    then Some (DuplicateAlias (name_place a)) else None
+    if has_text names (name_of_aggregate (length names + 1) a)
+    || has_name groups (name_of_aggregate (length names + 1) a)
+    then Some (DuplicateAlias (name_offset a)) else None
 
 -- ---- the first fault of a part
 
@@ -56,10 +52,12 @@ abbrev pub from_fault : List Name → Option PlanFault
 from_fault tables = option_or (first_beside from_table_fault tables) (fact_fault tables)
 
 abbrev pub join_fault : List Name → List Pair → Option PlanFault
-join_fault tables pairs = option_or (first_beside pair_fault pairs) (first_answer (missing_fault pairs) tables)
+join_fault tables pairs =
+    option_or (first_beside pair_fault pairs) (first_answer (missing_fault pairs) tables)
 
 abbrev pub select_fault : List Name → List Item → Option PlanFault
-select_fault groups items = option_or (first_beside (item_fault groups) items) (aggregates_fault (aggregate_names items))
+select_fault groups items =
+    option_or (first_beside (item_fault groups) items) (aggregates_fault (aggregate_names items))
 
 -- of the names of tables and columns
 abbrev pub naming_fault : List Name → List Use → List Pair → Option PlanFault

@@ -1,11 +1,7 @@
 -- What a draft says and counts, with a statement more.
-use Rattle.std.proofs.Common.{◌≡◌, ◌≤◌, ◌+◌, ◌-◌, ◌∙◌, ◌∷◌, ◌++◌, [], ℕ, List, append_assoc, append-nil, length, arith, ap, refl}
-use Rattle.std.proofs.{lemmas.List.length_push, lemmas.List.map_push, lemmas.Grind.common_steps}
-use Rattle.star_program.specs.Code.{Code, Stop, Then, Each, code_size, scan_depth}
-use Rattle.star_program.specs.Private.Drafts.{Counts, IsClosed, begun, closed, code_says, groups_say, opens_say, whole_draft}
-use Rattle.star_program.specs.{Private.Followed.followed, Limits.IsSmall, declared.group.GroupDecl.GroupDecl, declared.op.Op.Op, declared.program.Show.Show, declared.spelling.draft.Draft.Draft, declared.spelling.draft.OpenScan.OpenScan, declared.spelling.statement.Statement.Statement}
+use Rattle.std.proofs.{Common.{◌≡◌, ◌≤◌, ◌+◌, ◌-◌, ◌∙◌, ◌∷◌, ◌++◌, [], ℕ, List, append_assoc, append-nil, length, arith, ap, refl}, lemmas.List.{length_push, map_push}, lemmas.Grind.common_steps}
+use Rattle.star_program.{specs.Code.{Code, Stop, Then, Each, code_size, scan_depth}, specs.Private.Drafts.{Counts, IsClosed, begun, closed, code_says, groups_say, opens_say, whole_draft}, specs.Private.Followed.followed, specs.Limits.IsSmall, specs.declared.group.GroupDecl.GroupDecl, specs.declared.op.Op.Op, specs.declared.program.Show.Show, specs.declared.spelling.draft.Draft.Draft, specs.declared.spelling.draft.OpenScan.OpenScan, specs.declared.spelling.statement.Statement.Statement, proofs.Text.Depths.{both_within, left_within, right_within}}
 use Rattle.star_schema.specs.{declared.group.SortKey.SortKey, declared.table.TableId.TableId}
-use Rattle.star_program.proofs.Text.Depths.{both_within, left_within, right_within}
 use Rattle.star_program.specs.declared.spelling.statement.Statement.TheVariants as says
 
 -- ---- a code and another after it

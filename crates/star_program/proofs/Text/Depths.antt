@@ -1,7 +1,6 @@
 -- How large a step and the steps after it are, and how deep their scans stand one in another.
-use Rattle.std.proofs.Common.{◌≡◌, ◌≤◌, ◌+◌, ℕ, List, Some, drop, arith}
-use Rattle.std.specs.{Prelude.nat_lt, Prelude.if◌then◌else◌, List.slice_get}
-use Rattle.star_common.proofs.Lists.{drop_at_place}
+use Rattle.std.{proofs.Common.{◌≡◌, ◌≤◌, ◌+◌, ℕ, List, Some, drop, arith}, specs.Prelude.{nat_lt, if◌then◌else◌}, specs.List.slice_get}
+use Rattle.star_common.proofs.Lists.{drop_at_index}
 use Rattle.star_program.specs.{Code.Code, Code.code_size, Code.scan_depth, CodeOfSteps.before, CodeOfSteps.code_of_steps, Private.Followed.code_of_step, declared.body.Step.Step, declared.body.Step.TheVariants.Act, declared.body.Step.TheVariants.Scan}
 
 at_least : (a b : ℕ) → b ≤ (if nat_lt a b then b else a)
@@ -15,14 +14,14 @@ rest_depth (Scan table target body) rest = at_least (1 + scan_depth body) (scan_
 pub rest_nested : (depth : ℕ) (steps : List Step) (i : ℕ) (step : Step)
     → slice_get steps i ≡ Some step → depth + scan_depth (code_of_steps (drop i steps)) ≤ 3
     → depth + scan_depth (code_of_steps (drop (i + 1) steps)) ≤ 3
-rest_nested depth steps i step at h = grind (arith, drop_at_place, rest_depth)
+rest_nested depth steps i step at h = grind (arith, drop_at_index, rest_depth)
 
 -- a step and the steps after it are no larger than the steps from it on
 pub step_small : (size : ℕ) (steps : List Step) (i : ℕ) (step : Step)
     → slice_get steps i ≡ Some step → code_size (code_of_steps (drop i steps)) ≤ size
     → (code_size (code_of_step step) ≤ size)
     × (code_size (code_of_steps (drop (i + 1) steps)) ≤ size)
-step_small size steps i step at h = grind (arith, drop_at_place)
+step_small size steps i step at h = grind (arith, drop_at_index)
 
 -- the larger of two is within what both are within
 abbrev pub larger : ℕ → ℕ → ℕ

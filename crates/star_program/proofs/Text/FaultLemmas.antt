@@ -1,12 +1,10 @@
 -- The first fault, line by line.
-use Rattle.std.proofs.Common.{◌≡◌, ◌+◌, ◌∷◌, [], ℕ, true, false, List, Some, Ok, Err, refl, lit≤, arith}
-use Rattle.std.proofs.{lemmas.Bool.and_parts, lemmas.Bool.leb-true}
-use Rattle.star_program.specs.Text.FirstFaults.{advance, end_in, is_within, lines_fault, program_text_fault, start}
-use Rattle.star_program.specs.{Text.Lines.is_blank_line, Text.Lines.lines_of, Private.Within.IsWithinLargest, declared.spelling.fault.TextFault.TextFault, declared.spelling.place.Place.Place, declared.spelling.place.Stage.Stage}
+use Rattle.std.proofs.{Common.{◌≡◌, ◌+◌, ◌∷◌, [], ℕ, true, false, List, Some, Ok, Err, refl, lit≤, arith}, lemmas.Bool.{and_parts, leb-true}}
+use Rattle.star_program.specs.{Text.FirstFaults.{advance, end_in, is_within, lines_fault, program_text_fault, start}, Text.Lines.{is_blank_line, lines_of}, Private.Within.IsWithinLargest, declared.spelling.fault.TextFault.TextFault, declared.spelling.text_state.TextState.TextState, declared.spelling.text_state.Stage.Stage}
 
--- a place by its parts
-abbrev pub place : Stage → ℕ → ℕ → ℕ → ℕ → ℕ → Place
-place st g i dp sh so = record {
+-- a state by its parts
+abbrev pub state : Stage → ℕ → ℕ → ℕ → ℕ → ℕ → TextState
+state st g i dp sh so = record {
   stage = st;
   groups = g;
   instructions = i;
@@ -16,28 +14,28 @@ place st g i dp sh so = record {
   sorts = so;
 }
 
-pub within_from : (p : Place) → is_within p ≡ true → IsWithinLargest p
+pub within_from : (p : TextState) → is_within p ≡ true → IsWithinLargest p
 unfolding is_within
 within_from p h = grind (arith, and_parts, leb-true)
 
-pub blank_line : (p : Place) (n : ℕ) (text : List ℕ) (texts : List (List ℕ))
+pub blank_line : (p : TextState) (n : ℕ) (text : List ℕ) (texts : List (List ℕ))
     → is_blank_line text ≡ true → lines_fault p n (text ∷ texts) ≡ lines_fault p (n + 1) texts
 unfolding lines_fault
 blank_line p n text texts blank = rw blank refl
 
-pub advanced : (p : Place) (n : ℕ) (text : List ℕ) (texts : List (List ℕ)) (q : Place)
+pub advanced : (p : TextState) (n : ℕ) (text : List ℕ) (texts : List (List ℕ)) (q : TextState)
     → is_blank_line text ≡ false → advance p n text ≡ Ok q
     → lines_fault p n (text ∷ texts) ≡ lines_fault q (n + 1) texts
 unfolding lines_fault
 advanced p n text texts q filled goes = rw (filled, goes) refl
 
-pub refused : (p : Place) (n : ℕ) (text : List ℕ) (texts : List (List ℕ)) (f : TextFault)
+pub refused : (p : TextState) (n : ℕ) (text : List ℕ) (texts : List (List ℕ)) (f : TextFault)
     → is_blank_line text ≡ false → advance p n text ≡ Err f
     → lines_fault p n (text ∷ texts) ≡ Some f
 unfolding lines_fault
 refused p n text texts f filled goes = rw (filled, goes) refl
 
-pub ended : (p : Place) (n : ℕ) → lines_fault p n [] ≡ end_in p.stage p.depth n
+pub ended : (p : TextState) (n : ℕ) → lines_fault p n [] ≡ end_in p.stage p.depth n
 unfolding lines_fault
 ended p n = refl
 

@@ -1,7 +1,5 @@
 -- The first line of a text.
-use Rattle.std.proofs.Common.{◌≡◌, ◌==◌, ◌<◌, ◌&&◌, ◌∙◌, ◌∷◌, ◌++◌, [], ℕ, Bool, true, false, zero, suc, List, drop, take, get_or, length, arith, ap, sym, refl, inl, inr}
-use Rattle.std.proofs.lemmas.Bool.{cases_Bool, and_parts, and_right, both_ways, eqb-true}
-use Rattle.std.specs.Prelude.{if◌then◌else◌}
+use Rattle.std.{proofs.Common.{◌≡◌, ◌==◌, ◌<◌, ◌&&◌, ◌∙◌, ◌∷◌, ◌++◌, [], ℕ, Bool, true, false, zero, suc, List, drop, take, get_or, length, arith, ap, sym, refl, inl, inr}, proofs.lemmas.Bool.{cases_Bool, and_parts, and_right, both_ways, eqb-true}, specs.Prelude.if◌then◌else◌}
 use Rattle.star_schema.specs.Records.{with_first}
 use Rattle.star_program.specs.{Text.Lines.begins_with, Text.Lines.lines_of, Private.Returns.without_return}
 

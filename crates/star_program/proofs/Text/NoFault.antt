@@ -1,18 +1,10 @@
 -- A text that spells a program within the limits has no fault.
-use Rattle.std.specs.{Prelude.codes, Prelude.filter, Prelude.nat_lt, Prelude.not, Cmp.Lexicographic.bytes_decides, Option.option_map}
-use Rattle.std.proofs.Common.{◌≡◌, ◌&&◌, ◌≤◌, ◌+◌, ◌-◌, ◌∙◌, ◌∷◌, ◌++◌, [], ℕ, true, false, List, Option, Some, None, Ok, All, append_assoc, length, map, arith, ap, refl, sym, subst, inl, inr, lit≤}
-use Rattle.std.proofs.lemmas.Bool.{cases_Bool, eqb-true, eq-eqb, le-leb, ne_eqb}
-use Rattle.std.proofs.lemmas.List.Elements.{All-head, All-tail}
-use Rattle.star_program.specs.Code.{Code, Stop, Then, Each, code_size, scan_depth}
-use Rattle.star_program.specs.{Private.Drafts.code_says, Private.Drafts.groups_say, Text.Keywords.keyword_name, Text.Keywords.keyword_of, Text.Keywords.same, Limits.IsSmall, Limits.IsWithinLimits, Text.Lines.is_blank_line, Text.Lines.lines_of, Text.Lines.words_of, Text.Numerals.count_of, Text.Said.by_keyword, Text.Said.by_words, Text.Said.from_one_word, Text.Said.said, Text.Spelling.Spells, Text.Spelling.program_statements}
-use Rattle.star_program.specs.Text.FirstFaults.{advance, after_in, begins_report, end_in, is_small, is_within, lines_fault, place_after, place_after_step, program_text_fault, start}
-use Rattle.star_program.specs.declared.{group.GroupDecl.GroupDecl, op.Op.Op, program.Parts.Parts, program.Show.Show, spelling.place.Place.Place, spelling.place.Stage.Stage, spelling.statement.Statement.Statement}
+use Rattle.std.{specs.Prelude.{codes, filter, nat_lt, not}, specs.Cmp.Lexicographic.bytes_decides, specs.Option.option_map, proofs.Common.{◌≡◌, ◌&&◌, ◌≤◌, ◌+◌, ◌-◌, ◌∙◌, ◌∷◌, ◌++◌, [], ℕ, true, false, List, Option, Some, None, Ok, All, append_assoc, length, map, arith, ap, refl, sym, subst, inl, inr, lit≤}, proofs.lemmas.Bool.{cases_Bool, eqb-true, eq-eqb, le-leb, ne_eqb}, proofs.lemmas.List.Elements.{All-head, All-tail}}
+use Rattle.star_program.{specs.Code.{Code, Stop, Then, Each, code_size, scan_depth}, specs.Private.Drafts.{code_says, groups_say}, specs.Text.Keywords.{keyword_name, keyword_of, same}, specs.Limits.{IsSmall, IsWithinLimits}, specs.Text.Lines.{is_blank_line, lines_of, words_of}, specs.Text.Numerals.count_of, specs.Text.Said.{by_keyword, by_words, from_one_word, said}, specs.Text.Spelling.{Spells, program_statements}, specs.Text.FirstFaults.{advance, after_in, begins_report, end_in, is_small, is_within, lines_fault, state_after, state_after_step, program_text_fault, start}, specs.declared.group.GroupDecl.GroupDecl, specs.declared.op.Op.Op, specs.declared.program.Parts.Parts, specs.declared.program.Show.Show, specs.declared.spelling.text_state.TextState.TextState, specs.declared.spelling.text_state.Stage.Stage, specs.declared.spelling.statement.Statement.Statement, proofs.Text.Depths.{larger, left_within, right_within}, proofs.Text.OneProgram.{program_said, tail_of}, proofs.Text.FaultLemmas.{advanced, blank_line, ended, state, text_fault_is}}
 use Rattle.star_program.specs.declared.spelling.keyword.Keyword.TheVariants as keyword
-use Rattle.star_program.specs.declared.spelling.place.Stage.TheVariants as stage
+use Rattle.star_program.specs.declared.spelling.text_state.Stage.TheVariants as stage
 use Rattle.star_program.specs.declared.spelling.statement.Statement.TheVariants as says
 use Rattle.star_schema.specs.declared.{group.SortKey.SortKey, table.TableId.TableId}
-use Rattle.star_program.proofs.Text.{Depths.larger, Depths.left_within, Depths.right_within, OneProgram.program_said, OneProgram.tail_of}
-use Rattle.star_program.proofs.Text.FaultLemmas.{advanced, blank_line, ended, place, text_fault_is}
 
 -- ---- a report stands in no scan
 
@@ -42,10 +34,10 @@ report_said : (text : List ℕ) (s : Statement) → begins_report (words_of text
 unfolding said
 report_said text s begins h = grind (arith, cases_Bool, by_words_report)
 
-step_report : (p q : Place) (g : ℕ) → place_after_step p (says.Report g) ≡ Some q → p.depth ≡ 0
+step_report : (p q : TextState) (g : ℕ) → state_after_step p (says.Report g) ≡ Some q → p.depth ≡ 0
 step_report p q g h = grind (arith, cases_Bool, eqb-true)
 
-report_outside : (st : Stage) (p q : Place) (g : ℕ) → after_in st p (says.Report g) ≡ Some q
+report_outside : (st : Stage) (p q : TextState) (g : ℕ) → after_in st p (says.Report g) ≡ Some q
     → p.depth ≡ 0
 report_outside stage.Groups p q g h = step_report p q g h
 report_outside stage.Body p q g h = step_report p q g h
@@ -53,30 +45,30 @@ report_outside st p q g h = let bad : ⊥ = cc in absurd bad
 
 -- ---- statements that may follow one another
 
-abbrev pub Follows : Place → Statement → Place → Type 0
-Follows p s q = (place_after p s ≡ Some q) × (is_within q ≡ true) × (is_small s ≡ true)
+abbrev pub Follows : TextState → Statement → TextState → Type 0
+Follows p s q = (state_after p s ≡ Some q) × (is_within q ≡ true) × (is_small s ≡ true)
 
-abbrev pub Walks : Place → List Statement → Place → Type 0
+abbrev pub Walks : TextState → List Statement → TextState → Type 0
 Walks p [] q = p ≡ q
-Walks p (s ∷ ss) q = (r : Place) × Follows p s r × Walks r ss q
+Walks p (s ∷ ss) q = (r : TextState) × Follows p s r × Walks r ss q
 
-walks_on : (p q r : Place) (ss ts : List Statement) → Walks p ss q → Walks q ts r
+walks_on : (p q r : TextState) (ss ts : List Statement) → Walks p ss q → Walks q ts r
     → Walks p (ss ++ ts) r
 walks_on p q r [] ts w v = rw w v
 walks_on p q r (s ∷ ss) ts w v = (w.0, w.1, walks_on w.0 q r ss ts w.2 v)
 
-pub no_report : (p q : Place) (text : List ℕ) (s : Statement) → said text ≡ Some s
-    → place_after p s ≡ Some q → (nat_lt 0 p.depth && begins_report (words_of text)) ≡ false
-unfolding place_after
+pub no_report : (p q : TextState) (text : List ℕ) (s : Statement) → said text ≡ Some s
+    → state_after p s ≡ Some q → (nat_lt 0 p.depth && begins_report (words_of text)) ≡ false
+unfolding state_after
 no_report p q text s is goes = grind (arith, cases_Bool, report_said, report_outside)
 
-pub advances : (p q : Place) (line : ℕ) (text : List ℕ) (s : Statement) → said text ≡ Some s
+pub advances : (p q : TextState) (line : ℕ) (text : List ℕ) (s : Statement) → said text ≡ Some s
     → Follows p s q → advance p line text ≡ Ok q
 unfolding advance
 advances p q line text s is goes =
     rw (no_report p q text s is goes.0, is, goes.0, goes.1, goes.2) refl
 
-walk_faults : (texts : List (List ℕ)) (ss : List Statement) (p q : Place) (line : ℕ)
+walk_faults : (texts : List (List ℕ)) (ss : List Statement) (p q : TextState) (line : ℕ)
     → map said (filter (λ text. not (is_blank_line text)) texts) ≡ map Some ss → Walks p ss q
     → ((n : ℕ) → end_in q.stage q.depth n ≡ None) → lines_fault p line texts ≡ None
 walk_faults [] [] p q line says walks ends = rw walks (ended q line ∙ ends line)
@@ -101,54 +93,54 @@ walk_faults (text ∷ texts) (s ∷ ss) p q line says walks ends =
 -- ---- the statements of a program
 
 within_is : (st : Stage) (g i dp sh so : ℕ) → g ≤ 8 → i ≤ 4096 → dp ≤ 3 → sh ≤ 16 → so ≤ 16
-    → is_within (place st g i dp sh so) ≡ true
+    → is_within (state st g i dp sh so) ≡ true
 unfolding is_within
 within_is st g i dp sh so a b c d e =
     rw (le-leb g 8 a, le-leb i 4096 b, le-leb dp 3 c, le-leb sh 16 d, le-leb so 16 e) refl
 
 group_follows : (g : ℕ) (group : GroupDecl) → g + 1 ≤ 8 → IsSmall group
-    → Follows (place stage.Groups g 0 0 0 0) (says.Group g group)
-    (place stage.Groups (g + 1) 0 0 0 0)
-unfolding place_after is_small
+    → Follows (state stage.Groups g 0 0 0 0) (says.Group g group)
+    (state stage.Groups (g + 1) 0 0 0 0)
+unfolding state_after is_small
 group_follows g group room small = grind (arith, eq-eqb, within_is, lit≤, le-leb)
 
 walk_groups : (gs : List GroupDecl) (g m : ℕ) → g + length gs ≡ m → m ≤ 8 → All IsSmall gs
-    → Walks (place stage.Groups g 0 0 0 0) (groups_say g gs) (place stage.Groups m 0 0 0 0)
+    → Walks (state stage.Groups g 0 0 0 0) (groups_say g gs) (state stage.Groups m 0 0 0 0)
 walk_groups [] g m is room small = let same : g ≡ m = omega arith in rw same refl
 walk_groups (group ∷ gs) g m is room small = (
-  place stage.Groups (g + 1) 0 0 0 0,
+  state stage.Groups (g + 1) 0 0 0 0,
   group_follows g group (omega arith) (All-head IsSmall group gs small),
   walk_groups gs (g + 1) m (omega arith) room (All-tail IsSmall group gs small),
 )
 
 -- a step of the body, where steps may stand
-abbrev Steps : Place → Statement → Place → Type 0
-Steps p s q = (place_after_step p s ≡ Some q) × (is_within q ≡ true) × (is_small s ≡ true)
+abbrev Steps : TextState → Statement → TextState → Type 0
+Steps p s q = (state_after_step p s ≡ Some q) × (is_within q ≡ true) × (is_small s ≡ true)
 
 act_follows : (st : Stage) (g i dp : ℕ) (op : Op) → g ≤ 8 → i + 1 ≤ 4096 → dp ≤ 3
-    → Steps (place st g i dp 0 0) (says.Act op) (place stage.Body g (i + 1) dp 0 0)
+    → Steps (state st g i dp 0 0) (says.Act op) (state stage.Body g (i + 1) dp 0 0)
 unfolding is_small
 act_follows st g i dp op a b c =
     (refl, within_is stage.Body g (i + 1) dp 0 0 a b c (lit≤ tt) (lit≤ tt), refl)
 
 scan_follows : (st : Stage) (g i dp : ℕ) (t : TableId) (r : ℕ) → g ≤ 8 → i + 1 ≤ 4096 → dp + 1 ≤ 3
-    → Steps (place st g i dp 0 0) (says.Scan t r) (place stage.Body g (i + 1) (dp + 1) 0 0)
+    → Steps (state st g i dp 0 0) (says.Scan t r) (state stage.Body g (i + 1) (dp + 1) 0 0)
 unfolding is_small
 scan_follows st g i dp t r a b c =
     (refl, within_is stage.Body g (i + 1) (dp + 1) 0 0 a b c (lit≤ tt) (lit≤ tt), refl)
 
 end_follows : (g i dp : ℕ) → g ≤ 8 → i ≤ 4096 → dp + 1 ≤ 3
-    → Steps (place stage.Body g i (dp + 1) 0 0) says.End (place stage.Body g i dp 0 0)
+    → Steps (state stage.Body g i (dp + 1) 0 0) says.End (state stage.Body g i dp 0 0)
 unfolding is_small
 end_follows g i dp a b c = grind (arith, ne_eqb, within_is, lit≤)
 
 -- a body after one of its steps
 walk_body : (c : Code) (g i dp m : ℕ) → i + code_size c ≡ m → m ≤ 4096 → dp + scan_depth c ≤ 3
-    → g ≤ 8 → Walks (place stage.Body g i dp 0 0) (code_says c) (place stage.Body g m dp 0 0)
-unfolding place_after
+    → g ≤ 8 → Walks (state stage.Body g i dp 0 0) (code_says c) (state stage.Body g m dp 0 0)
+unfolding state_after
 walk_body Stop g i dp m is room nested few = let same : i ≡ m = omega arith in rw same refl
 walk_body (Then op rest) g i dp m is room nested few = (
-  place stage.Body g (i + 1) dp 0 0,
+  state stage.Body g (i + 1) dp 0 0,
   act_follows stage.Body g i dp op few (omega arith) (omega arith),
   walk_body rest g (i + 1) dp m (omega arith) room nested few,
 )
@@ -161,38 +153,38 @@ walk_body (Each t r body rest) g i dp m is room nested few =
     let n : ℕ = i + 1 + code_size body in
     let turns = walk_body body g (i + 1) (dp + 1) n refl (omega arith) inner few in
     let others = walk_body rest g n dp m (omega arith) room outer few in (
-      place stage.Body g (i + 1) (dp + 1) 0 0,
+      state stage.Body g (i + 1) (dp + 1) 0 0,
       scan_follows stage.Body g i dp t r few (omega arith) (omega arith),
-      walks_on (place stage.Body g (i + 1) (dp + 1) 0 0) (place stage.Body g n (dp + 1) 0 0)
-          (place stage.Body g m dp 0 0) (code_says body) (says.End ∷ code_says rest) turns
-          (place stage.Body g n dp 0 0, end_follows g n dp few (omega arith) (omega arith), others),
+      walks_on (state stage.Body g (i + 1) (dp + 1) 0 0) (state stage.Body g n (dp + 1) 0 0)
+          (state stage.Body g m dp 0 0) (code_says body) (says.End ∷ code_says rest) turns
+          (state stage.Body g n dp 0 0, end_follows g n dp few (omega arith) (omega arith), others),
     )
 
 report_follows : (st : Stage) (g i n : ℕ) → g ≤ 8 → i ≤ 4096
-    → Steps (place st g i 0 0 0) (says.Report n) (place stage.Shows g i 0 0 0)
+    → Steps (state st g i 0 0 0) (says.Report n) (state stage.Shows g i 0 0 0)
 unfolding is_small
 report_follows st g i n a b =
     (refl, within_is stage.Shows g i 0 0 0 a b (lit≤ tt) (lit≤ tt) (lit≤ tt), refl)
 
 -- the rest of a program after a step, and its report
 walk_report : (c : Code) (g i m n : ℕ) → i + code_size c ≡ m → m ≤ 4096 → scan_depth c ≤ 3 → g ≤ 8
-    → Walks (place stage.Body g i 0 0 0) (code_says c ++ says.Report n ∷ [])
-    (place stage.Shows g m 0 0 0)
-unfolding place_after
+    → Walks (state stage.Body g i 0 0 0) (code_says c ++ says.Report n ∷ [])
+    (state stage.Shows g m 0 0 0)
+unfolding state_after
 walk_report c g i m n is room nested few =
-    walks_on (place stage.Body g i 0 0 0) (place stage.Body g m 0 0 0) (place stage.Shows g m 0 0 0)
+    walks_on (state stage.Body g i 0 0 0) (state stage.Body g m 0 0 0) (state stage.Shows g m 0 0 0)
     (code_says c) (says.Report n ∷ [])
     (walk_body c g i 0 m is room (omega arith) few)
-    (place stage.Shows g m 0 0 0, report_follows stage.Body g m n few room, refl)
+    (state stage.Shows g m 0 0 0, report_follows stage.Body g m n few room, refl)
 
 walk_code : (c : Code) (g n : ℕ) → code_size c ≤ 4096 → scan_depth c ≤ 3 → g ≤ 8
-    → Walks (place stage.Groups g 0 0 0 0) (code_says c ++ says.Report n ∷ [])
-    (place stage.Shows g (code_size c) 0 0 0)
-unfolding place_after
+    → Walks (state stage.Groups g 0 0 0 0) (code_says c ++ says.Report n ∷ [])
+    (state stage.Shows g (code_size c) 0 0 0)
+unfolding state_after
 walk_code Stop g n room nested few =
-    (place stage.Shows g 0 0 0 0, report_follows stage.Groups g 0 n few room, refl)
+    (state stage.Shows g 0 0 0 0, report_follows stage.Groups g 0 n few room, refl)
 walk_code (Then op rest) g n room nested few = (
-  place stage.Body g 1 0 0 0,
+  state stage.Body g 1 0 0 0,
   act_follows stage.Groups g 0 0 op few (lit≤ tt) (lit≤ tt),
   walk_report rest g 1 (code_size (Then op rest)) n (omega arith) room nested few,
 )
@@ -208,13 +200,13 @@ walk_code (Each t r body rest) g n room nested few =
     let parted : (code_says body ++ says.End ∷ code_says rest) ++ says.Report n ∷ []
     ≡ code_says body ++ (says.End ∷ (code_says rest ++ says.Report n ∷ [])) =
     append_assoc (code_says body) (says.End ∷ code_says rest) (says.Report n ∷ []) in
-    let q : Place = place stage.Shows g (code_size (Each t r body rest)) 0 0 0 in
-    let all : Walks (place stage.Body g 1 1 0 0)
+    let q : TextState = state stage.Shows g (code_size (Each t r body rest)) 0 0 0 in
+    let all : Walks (state stage.Body g 1 1 0 0)
     (code_says body ++ (says.End ∷ (code_says rest ++ says.Report n ∷ []))) q =
-    walks_on (place stage.Body g 1 1 0 0) (place stage.Body g k 1 0 0) q (code_says body)
+    walks_on (state stage.Body g 1 1 0 0) (state stage.Body g k 1 0 0) q (code_says body)
     (says.End ∷ (code_says rest ++ says.Report n ∷ [])) turns
-    (place stage.Body g k 0 0 0, end_follows g k 0 few (omega arith) (lit≤ tt), others) in (
-      place stage.Body g 1 1 0 0,
+    (state stage.Body g k 0 0 0, end_follows g k 0 few (omega arith) (lit≤ tt), others) in (
+      state stage.Body g 1 1 0 0,
       scan_follows stage.Groups g 0 0 t r few (lit≤ tt) (lit≤ tt),
       rw parted all,
     )
@@ -222,70 +214,70 @@ walk_code (Each t r body rest) g n room nested few =
 -- ---- below the report
 
 show_follows : (g i sh : ℕ) (show : Show) → g ≤ 8 → i ≤ 4096 → sh + 1 ≤ 16
-    → Follows (place stage.Shows g i 0 sh 0) (says.Show show) (place stage.Shows g i 0 (sh + 1) 0)
-unfolding place_after is_small
+    → Follows (state stage.Shows g i 0 sh 0) (says.Show show) (state stage.Shows g i 0 (sh + 1) 0)
+unfolding state_after is_small
 show_follows g i sh show a b c =
     (refl, within_is stage.Shows g i 0 (sh + 1) 0 a b (lit≤ tt) c (lit≤ tt), refl)
 
 walk_shows : (xs : List Show) (g i sh m : ℕ) → g ≤ 8 → i ≤ 4096 → sh + length xs ≡ m → m ≤ 16
-    → Walks (place stage.Shows g i 0 sh 0) (map says.Show xs) (place stage.Shows g i 0 m 0)
+    → Walks (state stage.Shows g i 0 sh 0) (map says.Show xs) (state stage.Shows g i 0 m 0)
 walk_shows [] g i sh m few room is within = let same : sh ≡ m = omega arith in rw same refl
 walk_shows (x ∷ xs) g i sh m few room is within = (
-  place stage.Shows g i 0 (sh + 1) 0,
+  state stage.Shows g i 0 (sh + 1) 0,
   show_follows g i sh x few room (omega arith),
   walk_shows xs g i (sh + 1) m few room (omega arith) within,
 )
 
 first_sort_follows : (g i sh : ℕ) (key : SortKey) → g ≤ 8 → i ≤ 4096 → sh ≤ 16
-    → Follows (place stage.Shows g i 0 sh 0) (says.Sort key) (place stage.Sorts g i 0 sh 1)
-unfolding place_after is_small
+    → Follows (state stage.Shows g i 0 sh 0) (says.Sort key) (state stage.Sorts g i 0 sh 1)
+unfolding state_after is_small
 first_sort_follows g i sh key a b c =
     (refl, within_is stage.Sorts g i 0 sh 1 a b (lit≤ tt) c (lit≤ tt), refl)
 
 sort_follows : (g i sh so : ℕ) (key : SortKey) → g ≤ 8 → i ≤ 4096 → sh ≤ 16 → so + 1 ≤ 16
-    → Follows (place stage.Sorts g i 0 sh so) (says.Sort key) (place stage.Sorts g i 0 sh (so + 1))
-unfolding place_after is_small
+    → Follows (state stage.Sorts g i 0 sh so) (says.Sort key) (state stage.Sorts g i 0 sh (so + 1))
+unfolding state_after is_small
 sort_follows g i sh so key a b c d =
     (refl, within_is stage.Sorts g i 0 sh (so + 1) a b (lit≤ tt) c d, refl)
 
 walk_sorts : (ks : List SortKey) (g i sh so m : ℕ) → g ≤ 8 → i ≤ 4096 → sh ≤ 16 → so + length ks ≡ m
-    → m ≤ 16 → Walks (place stage.Sorts g i 0 sh so) (map says.Sort ks)
-    (place stage.Sorts g i 0 sh m)
+    → m ≤ 16 → Walks (state stage.Sorts g i 0 sh so) (map says.Sort ks)
+    (state stage.Sorts g i 0 sh m)
 walk_sorts [] g i sh so m few room shows is within = let same : so ≡ m = omega arith in rw same refl
 walk_sorts (k ∷ ks) g i sh so m few room shows is within = (
-  place stage.Sorts g i 0 sh (so + 1),
+  state stage.Sorts g i 0 sh (so + 1),
   sort_follows g i sh so k few room shows (omega arith),
   walk_sorts ks g i sh (so + 1) m few room shows (omega arith) within,
 )
 
 -- a text may end below the report
-abbrev pub Ends : Place → List Statement → Type 0
-Ends p ss = (q : Place) × Walks p ss q × ((n : ℕ) → end_in q.stage q.depth n ≡ None)
+abbrev pub Ends : TextState → List Statement → Type 0
+Ends p ss = (q : TextState) × Walks p ss q × ((n : ℕ) → end_in q.stage q.depth n ≡ None)
 
 sorts_end : (ks : List SortKey) (g i sh : ℕ) → g ≤ 8 → i ≤ 4096 → sh ≤ 16 → length ks ≤ 16
-    → Ends (place stage.Shows g i 0 sh 0) (map says.Sort ks)
-sorts_end [] g i sh few room shows within = (place stage.Shows g i 0 sh 0, refl, λ n. refl)
+    → Ends (state stage.Shows g i 0 sh 0) (map says.Sort ks)
+sorts_end [] g i sh few room shows within = (state stage.Shows g i 0 sh 0, refl, λ n. refl)
 sorts_end (k ∷ ks) g i sh few room shows within =
-    let q : Place = place stage.Sorts g i 0 sh (length (k ∷ ks)) in (
+    let q : TextState = state stage.Sorts g i 0 sh (length (k ∷ ks)) in (
       q,
       (
-        place stage.Sorts g i 0 sh 1,
+        state stage.Sorts g i 0 sh 1,
         first_sort_follows g i sh k few room shows,
         walk_sorts ks g i sh 1 (length (k ∷ ks)) few room shows (omega arith) within,
       ),
       λ n. refl,
     )
 
-ends_on : (p q : Place) (ss ts : List Statement) → Walks p ss q → Ends q ts → Ends p (ss ++ ts)
+ends_on : (p q : TextState) (ss ts : List Statement) → Walks p ss q → Ends q ts → Ends p (ss ++ ts)
 ends_on p q ss ts w e = (e.0, walks_on p q e.0 ss ts w e.1, e.2)
 
 registers_follow : (n : ℕ) → n ≤ 4096
-    → Follows (place stage.Registers 0 0 0 0 0) (says.Registers n) (place stage.Groups 0 0 0 0 0)
-unfolding place_after is_small is_within
+    → Follows (state stage.Registers 0 0 0 0 0) (says.Registers n) (state stage.Groups 0 0 0 0 0)
+unfolding state_after is_small is_within
 registers_follow n room = (refl, refl, le-leb n 4096 room)
 
-header_follows : Follows start says.Header (place stage.Registers 0 0 0 0 0)
-unfolding start place_after is_small is_within
+header_follows : Follows start says.Header (state stage.Registers 0 0 0 0 0)
+unfolding start state_after is_small is_within
 header_follows = (refl, refl, refl)
 
 body_first : (gs code tail : List Statement) (r : Statement)
@@ -301,25 +293,25 @@ program_ends p h =
     let body = walk_code p.body g p.report h.instructions h.scans h.groups in
     let shows = walk_shows p.shows g i 0 sh h.groups h.instructions (omega arith) h.shows in
     let sorts = sorts_end p.sorts g i sh h.groups h.instructions h.shows h.sorts in
-    let tail : Ends (place stage.Shows g i 0 0 0) (tail_of p) =
-    ends_on (place stage.Shows g i 0 0 0) (place stage.Shows g i 0 sh 0) (map says.Show p.shows)
+    let tail : Ends (state stage.Shows g i 0 0 0) (tail_of p) =
+    ends_on (state stage.Shows g i 0 0 0) (state stage.Shows g i 0 sh 0) (map says.Show p.shows)
     (map says.Sort p.sorts) shows sorts in
-    let below : Ends (place stage.Groups g 0 0 0 0)
+    let below : Ends (state stage.Groups g 0 0 0 0)
     ((code_says p.body ++ says.Report p.report ∷ []) ++ tail_of p) =
-    ends_on (place stage.Groups g 0 0 0 0) (place stage.Shows g i 0 0 0)
+    ends_on (state stage.Groups g 0 0 0 0) (state stage.Shows g i 0 0 0)
     (code_says p.body ++ says.Report p.report ∷ []) (tail_of p) body tail in
-    let after_head : Ends (place stage.Groups 0 0 0 0 0)
+    let after_head : Ends (state stage.Groups 0 0 0 0 0)
     (groups_say 0 p.groups ++ ((code_says p.body ++ says.Report p.report ∷ []) ++ tail_of p)) =
-    ends_on (place stage.Groups 0 0 0 0 0) (place stage.Groups g 0 0 0 0) (groups_say 0 p.groups)
+    ends_on (state stage.Groups 0 0 0 0 0) (state stage.Groups g 0 0 0 0) (groups_say 0 p.groups)
     ((code_says p.body ++ says.Report p.report ∷ []) ++ tail_of p) groups below in
     let all : Ends start (says.Header ∷ says.Registers p.registers
     ∷ (groups_say 0 p.groups
     ++ ((code_says p.body ++ says.Report p.report ∷ []) ++ tail_of p))) = (
       after_head.0,
       (
-        place stage.Registers 0 0 0 0 0,
+        state stage.Registers 0 0 0 0 0,
         header_follows,
-        (place stage.Groups 0 0 0 0 0, registers_follow p.registers h.registers, after_head.1),
+        (state stage.Groups 0 0 0 0 0, registers_follow p.registers h.registers, after_head.1),
       ),
       after_head.2,
     ) in

@@ -1,11 +1,7 @@
 -- No text spells two programs: its statements tell the parts of the program.
-use Rattle.std.specs.Prelude.{Some}
-use Rattle.std.proofs.Common.{◌≡◌, ◌+◌, ◌∙◌, ◌∷◌, ◌++◌, [], ℕ, Bool, true, false, List, map, append_assoc, refl, sym, ap}
-use Rattle.std.proofs.lemmas.{Bool.both_ways, List.map-append}
+use Rattle.std.{specs.Prelude.Some, proofs.Common.{◌≡◌, ◌+◌, ◌∙◌, ◌∷◌, ◌++◌, [], ℕ, Bool, true, false, List, map, append_assoc, refl, sym, ap}, proofs.lemmas.Bool.both_ways, proofs.lemmas.List.map-append}
 use Rattle.star_schema.specs.declared.group.SortKey.{SortKey}
-use Rattle.star_program.specs.{Code.Code, Code.Stop, Code.Then, Code.Each, Private.Drafts.code_says, Private.Drafts.groups_say, Text.Spelling.OneProgram, Text.Spelling.Spells, Text.Spelling.program_statements}
-use Rattle.star_program.specs.Text.Statements.{Line, group_lines, line, lines_of_code, show_line, sort_line}
-use Rattle.star_program.specs.declared.{group.GroupDecl.GroupDecl, program.Parts.Parts, program.Show.Show, spelling.statement.Statement.Statement, spelling.statement.Statement.TheVariants.Act, spelling.statement.Statement.TheVariants.Scan, spelling.statement.Statement.TheVariants.Group}
+use Rattle.star_program.specs.{Code.{Code, Stop, Then, Each}, Private.Drafts.{code_says, groups_say}, Text.Spelling.{OneProgram, Spells, program_statements}, Text.Statements.{Line, group_lines, line, lines_of_code, show_line, sort_line}, declared.group.GroupDecl.GroupDecl, declared.program.Parts.Parts, declared.program.Show.Show, declared.spelling.statement.Statement.Statement, declared.spelling.statement.Statement.TheVariants.{Act, Scan, Group}}
 use Rattle.star_program.specs.declared.spelling.statement.Statement.TheVariants as says
 
 abbrev said_by : List Line → List Statement

@@ -1,20 +1,10 @@
 -- Lines are read into a draft: each that is passed, each that is refused, and the end of the text.
-use Rattle.std.specs.Prelude.{if◌then◌else◌, nat_lt}
-use Rattle.std.proofs.Common.{◌≡◌, ◌⊎◌, ◌==◌, ◌&&◌, ◌<◌, ◌≤◌, ◌+◌, ◌-◌, ◌∙◌, ◌∷◌, ◌++◌, [], ℕ, Bool, true, false, List, Option, Some, None, Ok, Err, append_assoc, length, map, arith, ap, refl, sym, inl, inr, lit≤}
-use Rattle.std.proofs.lemmas.Bool.{and_parts, cases_Bool, eq-eqb, eqb-false, eqb-true, leb-true}
-use Rattle.std.proofs.lemmas.List.{map_push, nil_from_length}
-use Rattle.star_program.specs.{Code.Stop, Code.Then, Limits.IsSmall, Limits.IsWithinLimits, Text.Lines.is_blank_line, Text.Lines.lines_of, Text.Lines.words_of, Private.Within.IsWithinLargest, Text.Said.said, Text.Said.said_in, Text.Spelling.Spells}
-use Rattle.star_program.specs.Private.Drafts.{Counts, IsAdded, IsAt, IsClosed, IsInOrder, IsLineRefused, IsPassed, begun, finished, nothing_read, told, whole_draft}
-use Rattle.star_program.specs.Text.FirstFaults.{advance, after_in, begins_report, end_in, is_small, is_within, place_after, place_after_step, place_reached, start}
-use Rattle.star_program.specs.declared.{group.GroupDecl.GroupDecl, op.Op.Op, spelling.draft.Draft.Draft, spelling.fault.TextFault.TextFault, spelling.place.Place.Place, spelling.place.Stage.Stage, spelling.statement.Statement.Statement}
+use Rattle.std.{specs.Prelude.{if◌then◌else◌, nat_lt}, proofs.Common.{◌≡◌, ◌⊎◌, ◌==◌, ◌&&◌, ◌<◌, ◌≤◌, ◌+◌, ◌-◌, ◌∙◌, ◌∷◌, ◌++◌, [], ℕ, Bool, true, false, List, Option, Some, None, Ok, Err, append_assoc, length, map, arith, ap, refl, sym, inl, inr, lit≤}, proofs.lemmas.Bool.{and_parts, cases_Bool, eq-eqb, eqb-false, eqb-true, leb-true}, proofs.lemmas.List.{map_push, nil_from_length}, proofs.lemmas.Grind.common_steps}
+use Rattle.star_program.{specs.Code.{Stop, Then}, specs.Limits.{IsSmall, IsWithinLimits}, specs.Text.Lines.{is_blank_line, lines_of, words_of}, specs.Private.Within.IsWithinLargest, specs.Text.Said.{said, said_in}, specs.Text.Spelling.Spells, specs.Private.Drafts.{Counts, IsAdded, IsAt, IsClosed, IsInOrder, IsLineRefused, IsPassed, begun, finished, nothing_read, told, whole_draft}, specs.Text.FirstFaults.{advance, after_in, begins_report, end_in, is_small, is_within, state_after, state_after_step, state_reached, start}, specs.declared.group.GroupDecl.GroupDecl, specs.declared.op.Op.Op, specs.declared.spelling.draft.Draft.Draft, specs.declared.spelling.fault.TextFault.TextFault, specs.declared.spelling.text_state.TextState.TextState, specs.declared.spelling.text_state.Stage.Stage, specs.declared.spelling.statement.Statement.Statement, proofs.Text.FaultLemmas.{advanced, blank_line, state, refused, start_within, within_from}, proofs.Text.OneProgram.program_said, proofs.Text.AddedStatements.{begun_group, begun_body, begun_scan, begun_end, whole_show, whole_sort, counts_registers, counts_group, counts_step, counts_scan, counts_end, counts_show, counts_sort}}
 use Rattle.star_program.specs.declared.spelling.fault.TextFault.TheVariants as fault
-use Rattle.star_program.specs.declared.spelling.place.Stage.TheVariants as stage
+use Rattle.star_program.specs.declared.spelling.text_state.Stage.TheVariants as stage
 use Rattle.star_program.specs.declared.spelling.statement.Statement.TheVariants as says
 use Rattle.star_schema.specs.declared.table.TableId.{TableId}
-use Rattle.star_program.proofs.Text.FaultLemmas.{advanced, blank_line, place, refused, start_within, within_from}
-use Rattle.star_program.proofs.Text.OneProgram.{program_said}
-use Rattle.star_program.proofs.Text.AddedStatements.{begun_group, begun_body, begun_scan, begun_end, whole_show, whole_sort, counts_registers, counts_group, counts_step, counts_scan, counts_end, counts_show, counts_sort}
-use Rattle.std.proofs.lemmas.Grind.{common_steps}
 
 -- ---- a statement that may stand there
 
@@ -23,10 +13,10 @@ no_end : (b : Bool) (line : ℕ)
 no_end true line h = cc
 no_end false line h = cc
 
-some_depth : (p q : Place) → place_after_step p says.End ≡ Some q → 0 < p.depth
+some_depth : (p q : TextState) → state_after_step p says.End ≡ Some q → 0 < p.depth
 some_depth p q h = grind (arith, cases_Bool, eqb-false)
 
-pub ends_some : (st : Stage) (p q : Place) → after_in st p says.End ≡ Some q → 0 < p.depth
+pub ends_some : (st : Stage) (p q : TextState) → after_in st p says.End ≡ Some q → 0 < p.depth
 ends_some stage.Groups p q h = some_depth p q h
 ends_some stage.Body p q h = some_depth p q h
 ends_some st p q h = let bad : ⊥ = cc in absurd bad
@@ -35,58 +25,58 @@ small_registers : (n : ℕ) → is_small (says.Registers n) ≡ true → n ≤ 4
 unfolding is_small
 small_registers n h = leb-true n 4096 h
 
-small_group : (place : ℕ) (group : GroupDecl) → is_small (says.Group place group) ≡ true
+small_group : (state : ℕ) (group : GroupDecl) → is_small (says.Group state group) ≡ true
     → IsSmall group
 unfolding is_small
-small_group place group h = grind (arith, and_parts, leb-true)
+small_group state group h = grind (arith, and_parts, leb-true)
 
-abbrev Goes : Place → Draft → Statement → Place → Draft → Type 0
+abbrev Goes : TextState → Draft → Statement → TextState → Draft → Type 0
 Goes p d s q e = IsAt q e × (told q.stage e ≡ told p.stage d ++ s ∷ [])
 
 -- the same, where the draft says what was begun
-abbrev Steps : Draft → Statement → Place → Draft → Type 0
+abbrev Steps : Draft → Statement → TextState → Draft → Type 0
 Steps d s q e = IsAt q e × (told q.stage e ≡ begun d ++ s ∷ [])
 
--- a draft at a place that is known
-arrives : (r q : Place) (d e : Draft) (ss : List Statement) → r ≡ q → IsWithinLargest q → e ≡ d
+-- a draft at a state that is known
+arrives : (r q : TextState) (d e : Draft) (ss : List Statement) → r ≡ q → IsWithinLargest q → e ≡ d
     → Counts r.groups r.instructions r.depth r.shows r.sorts d → IsInOrder r.stage d
     → told r.stage d ≡ ss → IsAt q e × (told q.stage e ≡ ss)
 arrives r q d e ss is within added counts order says = grind arith
 
 -- a step of the body, from the groups on
-module _ (g i dp sh so : ℕ) (d : Draft) (q : Place) (e : Draft) (counts : Counts g i dp sh so d)
+module _ (g i dp sh so : ℕ) (d : Draft) (q : TextState) (e : Draft) (counts : Counts g i dp sh so d)
     (order : (d.shows ≡ []) × (d.sorts ≡ [])) (within : IsWithinLargest q) where
-  act_goes : (op : Op) → place stage.Body g (i + 1) dp sh so ≡ q → IsAdded d (says.Act op) e
+  act_goes : (op : Op) → state stage.Body g (i + 1) dp sh so ≡ q → IsAdded d (says.Act op) e
       → dp ≤ 3 → Steps d (says.Act op) q e
   act_goes op is added room =
       arrives _ q _ e _ is within added (counts_step g i dp sh so op d room counts) order
       (begun_body d (Then op Stop))
 
-  scan_goes : (t : TableId) (r : ℕ) → place stage.Body g (i + 1) (dp + 1) sh so ≡ q
+  scan_goes : (t : TableId) (r : ℕ) → state stage.Body g (i + 1) (dp + 1) sh so ≡ q
       → IsAdded d (says.Scan t r) e → Steps d (says.Scan t r) q e
-  scan_goes t r is added = grind (arith, common_steps, place, arrives, counts_scan, begun_scan)
+  scan_goes t r is added = grind (arith, common_steps, state, arrives, counts_scan, begun_scan)
 
-  end_goes : place stage.Body g i (dp - 1) sh so ≡ q → IsClosed d e → Steps d says.End q e
+  end_goes : state stage.Body g i (dp - 1) sh so ≡ q → IsClosed d e → Steps d says.End q e
   end_goes is added = arrives _ q e e _ is within refl (counts_end g i dp sh so d e added counts)
       (ap (λ x. x.shows) added.body ∙ order.0, ap (λ x. x.sorts) added.body ∙ order.1)
       (begun_end d e added)
 
-  report_goes : (n : ℕ) → after_in stage.Body (place stage.Body g i dp sh so) (says.Report n) ≡ Some q
-      → IsAdded d (says.Report n) e → Steps d (says.Report n) q e
+  report_goes : (n : ℕ) → after_in stage.Body (state stage.Body g i dp sh so) (says.Report n)
+      ≡ Some q → IsAdded d (says.Report n) e → Steps d (says.Report n) q e
   report_goes n may added =
-      grind (arith, common_steps, cases_Bool, place, nil_from_length, eqb-true, arrives)
+      grind (arith, common_steps, cases_Bool, state, nil_from_length, eqb-true, arrives)
 
 -- a statement after its like, by the part of the program
-goes : (st : Stage) (g i dp sh so : ℕ) (d : Draft) (s : Statement) (q : Place) (e : Draft)
-    → IsAt (place st g i dp sh so) d → after_in st (place st g i dp sh so) s ≡ Some q
-    → IsWithinLargest q → is_small s ≡ true → IsAdded d s e → Goes (place st g i dp sh so) d s q e
+goes : (st : Stage) (g i dp sh so : ℕ) (d : Draft) (s : Statement) (q : TextState) (e : Draft)
+    → IsAt (state st g i dp sh so) d → after_in st (state st g i dp sh so) s ≡ Some q
+    → IsWithinLargest q → is_small s ≡ true → IsAdded d s e → Goes (state st g i dp sh so) d s q e
 goes stage.Header g i dp sh so d says.Header q e at may within small added =
-    let is : place stage.Registers g i dp sh so ≡ q = cc in
+    let is : state stage.Registers g i dp sh so ≡ q = cc in
     arrives _ q _ e _ is within added at.counts at.order refl
 goes stage.Registers g i dp sh so d (says.Registers n) q e at may within small added =
-    grind (arith, place, arrives, counts_registers, small_registers)
+    grind (arith, state, arrives, counts_registers, small_registers)
 goes stage.Groups g i dp sh so d (says.Group n group) q e at may within small added =
-    grind (arith, common_steps, cases_Bool, place, arrives, counts_group, small_group, begun_group)
+    grind (arith, common_steps, cases_Bool, state, arrives, counts_group, small_group, begun_group)
 goes stage.Groups g i dp sh so d (says.Act op) q e at may within small added =
     act_goes g i dp sh so d q e at.counts (at.order.2, at.order.3) within op (cc) added
     at.within.depth
@@ -111,23 +101,23 @@ goes stage.Body g i dp sh so d says.End q e at may within small added =
 goes stage.Body g i dp sh so d (says.Report n) q e at may within small added =
     report_goes g i dp sh so d q e at.counts at.order within n may added
 goes stage.Shows g i dp sh so d (says.Show show) q e at may within small added =
-    let is : place stage.Shows g i dp (sh + 1) so ≡ q = cc in
+    let is : state stage.Shows g i dp (sh + 1) so ≡ q = cc in
     arrives _ q _ e _ is within added (counts_show g i dp sh so show d at.counts) at.order
     (whole_show d show at.order.1)
 goes stage.Shows g i dp sh so d (says.Sort key) q e at may within small added =
-    grind (arith, place, arrives, counts_sort, whole_sort)
+    grind (arith, state, arrives, counts_sort, whole_sort)
 goes stage.Sorts g i dp sh so d (says.Sort key) q e at may within small added =
-    let is : place stage.Sorts g i dp sh (so + 1) ≡ q = cc in
+    let is : state stage.Sorts g i dp sh (so + 1) ≡ q = cc in
     arrives _ q _ e _ is within added (counts_sort g i dp sh so key d at.counts) at.order
     (whole_sort d key)
 goes st g i dp sh so d s q e at may within small added = let bad : ⊥ = cc in absurd bad
 
-pub after_is : (p : Place) (s : Statement) → place_after p s ≡ after_in p.stage p s
-unfolding place_after
+pub after_is : (p : TextState) (s : Statement) → state_after p s ≡ after_in p.stage p s
+unfolding state_after
 after_is p s = refl
 
-pub goes_on : (p : Place) (d : Draft) (s : Statement) (q : Place) (e : Draft) → IsAt p d
-    → place_after p s ≡ Some q → IsWithinLargest q → is_small s ≡ true → IsAdded d s e
+pub goes_on : (p : TextState) (d : Draft) (s : Statement) (q : TextState) (e : Draft) → IsAt p d
+    → state_after p s ≡ Some q → IsWithinLargest q → is_small s ≡ true → IsAdded d s e
     → Goes p d s q e
 goes_on p d s q e at may within small added =
     goes p.stage p.groups p.instructions p.depth p.shows p.sorts d s q e at
@@ -135,20 +125,20 @@ goes_on p d s q e at may within small added =
 
 -- ---- a line
 
-pub reached_ok : (p : Place) (line : ℕ) (s : Statement) (o : Option Place) (q : Place)
-    → place_reached p line s o ≡ Ok q → (o ≡ Some q) × (is_within q ≡ true) × (is_small s ≡ true)
+pub reached_ok : (p : TextState) (line : ℕ) (s : Statement) (o : Option TextState) (q : TextState)
+    → state_reached p line s o ≡ Ok q → (o ≡ Some q) × (is_within q ≡ true) × (is_small s ≡ true)
 reached_ok p line s it q h = grind (arith, cases_Bool, and_parts)
 
-abbrev pub opens_report : Place → List ℕ → Bool
+abbrev pub opens_report : TextState → List ℕ → Bool
 opens_report p text = nat_lt 0 p.depth && begins_report (words_of text)
 
-pub advance_ok : (p : Place) (line : ℕ) (text : List ℕ) (s : Statement) (q : Place)
+pub advance_ok : (p : TextState) (line : ℕ) (text : List ℕ) (s : Statement) (q : TextState)
     → said text ≡ Some s → advance p line text ≡ Ok q
-    → place_reached p line s (place_after p s) ≡ Ok q
+    → state_reached p line s (state_after p s) ≡ Ok q
 unfolding advance
 advance_ok p line text s q is h = grind (arith, cases_Bool)
 
-said_more : (p : Place) (d : Draft) (s : Statement) (q : Place) (e : Draft) (text : List ℕ)
+said_more : (p : TextState) (d : Draft) (s : Statement) (q : TextState) (e : Draft) (text : List ℕ)
     (texts : List (List ℕ)) → is_blank_line text ≡ false → said text ≡ Some s
     → told q.stage e ≡ told p.stage d ++ s ∷ []
     → map Some (told p.stage d) ++ said_in (text ∷ texts)
@@ -156,11 +146,11 @@ said_more : (p : Place) (d : Draft) (s : Statement) (q : Place) (e : Draft) (tex
 said_more p d s q e text texts filled is more = grind (arith, map_push, append_assoc)
 
 -- a line whose statement was added
-pub line_passed : (p : Place) (d : Draft) (line : ℕ) (text : List ℕ) (s : Statement) (q : Place)
-    (e : Draft) → is_blank_line text ≡ false → IsAt p d → said text ≡ Some s
+pub line_passed : (p : TextState) (d : Draft) (line : ℕ) (text : List ℕ) (s : Statement)
+    (q : TextState) (e : Draft) → is_blank_line text ≡ false → IsAt p d → said text ≡ Some s
     → advance p line text ≡ Ok q → IsAdded d s e → IsPassed p d line text q e
 line_passed p d line text s q e filled at is goes_there added =
-    let reaches = reached_ok p line s (place_after p s) q
+    let reaches = reached_ok p line s (state_after p s) q
     (advance_ok p line text s q is goes_there) in
     let next = goes_on p d s q e at reaches.0 (within_from q reaches.1) reaches.2 added in
     record {
@@ -169,18 +159,19 @@ line_passed p d line text s q e filled at is goes_there added =
       says = λ texts. said_more p d s q e text texts filled is next.1;
     }
 
-pub blank_passed : (p : Place) (d : Draft) (line : ℕ) (text : List ℕ) → is_blank_line text ≡ true
-    → IsAt p d → IsPassed p d line text p d
+pub blank_passed : (p : TextState) (d : Draft) (line : ℕ) (text : List ℕ)
+    → is_blank_line text ≡ true → IsAt p d → IsPassed p d line text p d
 blank_passed p d line text blank at = grind (arith, blank_line)
 
 -- the end of a scan is reached in one alone
-pub end_opened : (p : Place) (d : Draft) (line : ℕ) (text : List ℕ) (s : Statement) (q : Place)
-    → IsAt p d → said text ≡ Some s → advance p line text ≡ Ok q → s ≡ says.End → 0 < length d.scans
+pub end_opened : (p : TextState) (d : Draft) (line : ℕ) (text : List ℕ) (s : Statement)
+    (q : TextState) → IsAt p d → said text ≡ Some s → advance p line text ≡ Ok q → s ≡ says.End
+    → 0 < length d.scans
 end_opened p d line text s q at is goes_there end =
-    let reaches = reached_ok p line s (place_after p s) q
+    let reaches = reached_ok p line s (state_after p s) q
     (advance_ok p line text s q is goes_there) in
     let may : after_in p.stage p says.End ≡ Some q =
-    sym (after_is p says.End) ∙ ap (place_after p) (sym end) ∙ reaches.0 in
+    sym (after_is p says.End) ∙ ap (state_after p) (sym end) ∙ reaches.0 in
     let some : 0 < p.depth = ends_some p.stage p q may in
     omega (arith, at.counts.2.open_scans, some)
 
@@ -199,11 +190,11 @@ ended_in : (st : Stage) (depth line : ℕ) (d : Draft) → IsInOrder st d → en
     → (d.scans ≡ []) × (told st d ≡ whole_draft d)
 ended_in it depth line d order h = grind (arith, no_end)
 
-pub end_within : (p : Place) (d : Draft) (line : ℕ) → IsAt p d → end_in p.stage p.depth line ≡ None
-    → IsWithinLimits (finished d)
+pub end_within : (p : TextState) (d : Draft) (line : ℕ) → IsAt p d
+    → end_in p.stage p.depth line ≡ None → IsWithinLimits (finished d)
 end_within p d line at h = grind (arith, ended_in)
 
-pub end_spelled : (p : Place) (d : Draft) (line : ℕ) (text : List ℕ) → IsAt p d
+pub end_spelled : (p : TextState) (d : Draft) (line : ℕ) (text : List ℕ) → IsAt p d
     → end_in p.stage p.depth line ≡ None → said_in (lines_of text) ≡ map Some (told p.stage d)
     → Spells text (finished d)
 unfolding Spells
@@ -212,7 +203,7 @@ end_spelled p d line text at h all =
     all ∙ ap (map Some) (last.1 ∙ sym (program_said (finished d)))
 
 -- a line that was refused
-pub line_refused : (p : Place) (line : ℕ) (text : List ℕ) (f : TextFault)
+pub line_refused : (p : TextState) (line : ℕ) (text : List ℕ) (f : TextFault)
     → is_blank_line text ≡ false → (f ≡ fault.OutOfMemory) ⊎ (advance p line text ≡ Err f)
     → IsLineRefused f p line text
 line_refused p line text f filled (inl memory) = inl memory

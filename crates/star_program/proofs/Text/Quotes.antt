@@ -1,7 +1,5 @@
 -- Texts in quotes, byte by byte.
-use Rattle.std.specs.{Prelude.if◌then◌else◌, Option.option_map}
-use Rattle.std.proofs.Common.{◌≡◌, ◌≢◌, ◌==◌, ◌∷◌, [], ℕ, List, Option, Some, None, false, length, arith, refl}
-use Rattle.std.proofs.{lemmas.Bool.ne_eqb}
+use Rattle.std.{specs.Prelude.if◌then◌else◌, specs.Option.option_map, proofs.Common.{◌≡◌, ◌≢◌, ◌==◌, ◌∷◌, [], ℕ, List, Option, Some, None, false, length, arith, refl}, proofs.lemmas.Bool.ne_eqb}
 use Rattle.star_program.specs.{Private.Reading.closes, Text.Said.unquoted}
 
 -- nothing goes on after what closes a text, or after its end

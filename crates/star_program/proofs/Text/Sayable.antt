@@ -1,26 +1,16 @@
 -- What a line says can be said: its numbers are short, its names and texts have the right bytes.
-use Rattle.std.specs.Prelude.{codes, filter, nat_le, not, ℤ, pos, neg_ℤ, if◌then◌else◌}
-use Rattle.std.proofs.Common.{◌≡◌, ◌==◌, ◌&&◌, ◌≤◌, ◌^◌, ◌∷◌, [], ℕ, zero, suc, Bool, true, false, List, Option, Some, None, All, drop, map, arith, refl, subst, inl, inr}
-use Rattle.std.specs.{List.list_all, Option.option_and_then, Option.option_map, Str.Parse.starts_with_minus}
-use Rattle.std.proofs.lemmas.{Bool.and_parts, Bool.cases_Bool, Bool.leb-true, Bool.lt-ltb, List.Elements.All-cons, List.Elements.All-nil}
+use Rattle.std.{specs.Prelude.{codes, filter, nat_le, not, ℤ, pos, neg_ℤ, if◌then◌else◌}, proofs.Common.{◌≡◌, ◌==◌, ◌&&◌, ◌≤◌, ◌^◌, ◌∷◌, [], ℕ, zero, suc, Bool, true, false, List, Option, Some, None, All, drop, map, arith, refl, subst, inl, inr}, specs.List.list_all, specs.Option.{option_and_then, option_map}, specs.Str.Parse.starts_with_minus, proofs.lemmas.Bool.{and_parts, cases_Bool, leb-true, lt-ltb}, proofs.lemmas.List.Elements.{All-cons, All-nil}}
 use Rattle.star_interval.specs.Range.{is_i64}
 use Rattle.star_schema.specs.Records.{is_filled, with_first}
-use Rattle.star_common.specs.{Printable.is_printable, Numerals.numeral_of}
+use Rattle.star_common.{specs.Printable.is_printable, specs.Numerals.numeral_of, proofs.NumeralLemmas.numeral_below}
 use Rattle.star_schema.specs.declared.group.GroupColumn.TheVariants as column
-use Rattle.star_program.specs.Text.Keywords.{aggregate_of_word, column_of_word, direction_of, keyword_of, mnemonic_of, same, shape_of_word, table_of_word}
-use Rattle.star_program.specs.Text.Lines.{begins_with, is_blank_line, lines_of, pieces_of, words_of}
-use Rattle.star_program.specs.Text.Numerals.{constant_of, count_of, is_show_name, register_of, up_to}
-use Rattle.star_program.specs.Text.Said.{assigned, both, by_first, by_keyword, by_words, each, end_of, from_one_word, from_three_words, from_two_words, group_column_of, group_key_of, group_of, header_of, lists, name_of, operation_of, put_of, quoted_text_of, said, show_of, sort_of, text_key, unquoted, until_colon}
-use Rattle.star_program.specs.Text.Spellable.{IsKey, IsPrinted, IsSayable, HasFourDigits, IsShortColumn, IsSpellableOp, IsSpellableOperation, OnlySpellable}
-use Rattle.star_program.specs.{Text.Spelling.Spells, Text.Spelling.program_statements, World.is_text}
+use Rattle.star_program.specs.{Text.Keywords.{aggregate_of_word, column_of_word, direction_of, keyword_of, mnemonic_of, same, shape_of_word, table_of_word}, Text.Lines.{begins_with, is_blank_line, lines_of, pieces_of, words_of}, Text.Numerals.{constant_of, count_of, is_show_name, register_of, up_to}, Text.Said.{assigned, both, by_first, by_keyword, by_words, each, end_of, from_one_word, from_three_words, from_two_words, group_column_of, group_key_of, group_of, header_of, lists, name_of, operation_of, put_of, quoted_text_of, said, show_of, sort_of, text_key, unquoted, until_colon}, Text.Spellable.{IsKey, IsPrinted, IsSayable, HasFourDigits, IsShortColumn, IsSpellableOp, IsSpellableOperation, OnlySpellable}, Text.Spelling.{Spells, program_statements}, World.is_text, declared.program.Show.Show, declared.spelling.keyword.Keyword.Keyword, declared.spelling.keyword.Mnemonic.Mnemonic, declared.spelling.statement.Statement.Statement}
 use Rattle.star_program.specs.declared.group.GroupKey.TheVariants as key
-use Rattle.star_program.specs.declared.{program.Show.Show, spelling.keyword.Keyword.Keyword, spelling.keyword.Mnemonic.Mnemonic, spelling.statement.Statement.Statement}
 use Rattle.star_program.specs.declared.op.Op.TheVariants as op
 use Rattle.star_program.specs.declared.op.Operation.TheVariants as operation
 use Rattle.star_program.specs.declared.spelling.keyword.Keyword.TheVariants as keyword
 use Rattle.star_program.specs.declared.spelling.keyword.Mnemonic.TheVariants as mnemonic
 use Rattle.star_program.specs.declared.spelling.statement.Statement.TheVariants as says
-use Rattle.star_common.proofs.NumeralLemmas.{numeral_below}
 
 -- ---- what holds of an answer, if there is one
 
@@ -280,8 +270,8 @@ group_sayable : (ws : List (List ℕ)) → IfThere IsSayable (group_of ws)
 group_sayable [] = none
 group_sayable (w ∷ []) = none
 group_sayable (w ∷ v ∷ ws) =
-    if_chained (λ (place, (shape, rest)). option_map (λ (keys, aggregates).
-    says.Group place (record { shape = shape; keys = keys; aggregates = aggregates }))
+    if_chained (λ (index, (shape, rest)). option_map (λ (keys, aggregates).
+    says.Group index (record { shape = shape; keys = keys; aggregates = aggregates }))
     (lists group_key_of aggregate_of_word rest))
     (if_both (count_short w) (any (both (shape_of_word v) (Some ws))))
     (λ p h. if_mapped (λ (keys, aggregates).
@@ -293,13 +283,13 @@ end_sayable : (ws : List (List ℕ)) → IfThere IsSayable (end_of ws)
 end_sayable [] = some tt
 end_sayable (w ∷ ws) = none
 
-column_short : (word place : List ℕ) → IfThere IsShortColumn (group_column_of word place)
+column_short : (word index : List ℕ) → IfThere IsShortColumn (group_column_of word index)
 unfolding group_column_of
-column_short word place =
+column_short word index =
     if_either (same word (codes "key"))
-    (λ is. if_mapped column.Key (count_short place) (λ n h. h))
+    (λ is. if_mapped column.Key (count_short index) (λ n h. h))
     (if_either (same word (codes "aggregate"))
-    (λ is. if_mapped column.Aggregate (count_short place) (λ n h. h)) none)
+    (λ is. if_mapped column.Aggregate (count_short index) (λ n h. h)) none)
 
 show_sayable : (ws : List (List ℕ)) → IfThere (λ s. IsSayable (says.Show s)) (show_of ws)
 show_sayable [] = none
@@ -313,9 +303,9 @@ show_sayable (name ∷ word ∷ ws) =
 sort_sayable : (ws : List (List ℕ)) → IfThere (λ k. IsSayable (says.Sort k)) (sort_of ws)
 sort_sayable [] = none
 sort_sayable (word ∷ []) = none
-sort_sayable (word ∷ place ∷ ws) =
+sort_sayable (word ∷ index ∷ ws) =
     if_mapped (λ (e, d). record { column = e; direction = d })
-    (if_both (column_short word place) (any (from_one_word direction_of ws))) (λ p h. h.0)
+    (if_both (column_short word index) (any (from_one_word direction_of ws))) (λ p h. h.0)
 
 by_keyword_sayable : (k : Keyword) (ws : List (List ℕ)) → IfThere IsSayable (by_keyword k ws)
 unfolding by_keyword

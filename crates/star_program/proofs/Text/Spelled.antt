@@ -1,25 +1,15 @@
 -- The text of a program that can be spelled spells it.
-use Rattle.std.specs.Prelude.{codes, decimal, filter, nat_le, not}
-use Rattle.std.proofs.Common.{◌≡◌, ◌==◌, ◌≤◌, ◌*◌, ◌∙◌, ◌∷◌, ◌++◌, [], ℕ, zero, suc, true, false, List, Option, Some, None, All, append_assoc, append-nil, map, arith, ap, refl, sym, replicate, slice_index_or}
-use Rattle.std.specs.{Fmt.signed_decimal, List.flat_map, List.list_all}
-use Rattle.std.proofs.lemmas.{Bool.and_parts, Bool.leb-true, Bool.ne_eqb, List.Concat.flat_map-append, List.Elements.All-head, List.Elements.All-tail, List.Folds.list_all-append}
+use Rattle.std.{specs.Prelude.{codes, decimal, filter, nat_le, not}, proofs.Common.{◌≡◌, ◌==◌, ◌≤◌, ◌*◌, ◌∙◌, ◌∷◌, ◌++◌, [], ℕ, zero, suc, true, false, List, Option, Some, None, All, append_assoc, append-nil, map, arith, ap, refl, sym, replicate, slice_index_or}, specs.Fmt.signed_decimal, specs.List.{flat_map, list_all}, proofs.lemmas.Bool.{and_parts, leb-true, ne_eqb}, proofs.lemmas.List.Concat.flat_map-append, proofs.lemmas.List.Elements.{All-head, All-tail}, proofs.lemmas.List.Folds.list_all-append}
 use Rattle.star_schema.specs.{Records.with_first, Schema.column_name, Schema.column_of as schema_column, Schema.table_name, Words.aggregate_name, Words.direction_name, Words.shape_name}
 use Rattle.star_common.specs.{Printable.is_printable, Quotes.doubled, Quotes.quoted}
 use Rattle.star_schema.specs.declared.{column.ColumnId.ColumnId, group.Direction.Direction, group.GroupColumn.GroupColumn, table.TableId.TableId}
 use Rattle.star_schema.specs.declared.group.GroupColumn.TheVariants as column
-use Rattle.star_program.specs.Text.Keywords.{aggregate_of_word, column_of_word, keyword_name, keyword_of, mnemonic_name, same}
-use Rattle.star_program.specs.Text.{Lines.is_blank_line, Lines.lines_of, Lines.words_of, Numerals.is_show_name, Numerals.register_of, Spelling.Spells, Statements.Line, Statements.lines_of_program}
-use Rattle.star_program.specs.Text.Said.{by_keyword, by_words, each, group_column_of, group_key_of, lists, operation_of, said, until_colon}
-use Rattle.star_program.specs.Text.Spellable.{IsKey, IsPrinted, IsSayable, HasFourDigits, IsShortColumn, IsSpellableOp, IsSpellableOperation, Written}
-use Rattle.star_program.specs.Text.Written.{aggregate_text, assigned_text, written_column, group_text, key_text, written_line, op_text, register_text, show_text, sort_text, statement_text, target_text, program_text}
-use Rattle.star_program.specs.declared.{group.GroupDecl.GroupDecl, group.GroupKey.GroupKey, op.Op.Op, op.Edge.Edge, op.Operation.Operation, spelling.keyword.Mnemonic.Mnemonic, spelling.statement.Statement.Statement}
+use Rattle.star_program.{specs.Text.Keywords.{aggregate_of_word, column_of_word, keyword_name, keyword_of, mnemonic_name, same}, specs.Text.Lines.{is_blank_line, lines_of, words_of}, specs.Text.Numerals.{is_show_name, register_of}, specs.Text.Spelling.Spells, specs.Text.Statements.{Line, lines_of_program}, specs.Text.Said.{by_keyword, by_words, each, group_column_of, group_key_of, lists, operation_of, said, until_colon}, specs.Text.Spellable.{IsKey, IsPrinted, IsSayable, HasFourDigits, IsShortColumn, IsSpellableOp, IsSpellableOperation, Written}, specs.Text.Written.{aggregate_text, assigned_text, written_column, group_text, key_text, written_line, op_text, register_text, show_text, sort_text, statement_text, target_text, program_text}, specs.declared.group.GroupDecl.GroupDecl, specs.declared.group.GroupKey.GroupKey, specs.declared.op.Op.Op, specs.declared.op.Edge.Edge, specs.declared.op.Operation.Operation, specs.declared.spelling.keyword.Mnemonic.Mnemonic, specs.declared.spelling.statement.Statement.Statement, proofs.Text.LineLemmas.{goes_on, no_lines}, proofs.Text.WordLemmas.space_first, proofs.Text.WrittenLemmas.flat_map_map, proofs.Text.SpelledWords.{aggregate_read, aggregate_word, behind, column_apart, column_read, column_word, constant_decimal, constant_word, count_decimal, count_word, direction_read, direction_word, is_word, name_word, mnemonic_read, mnemonic_word, quote_printable, quoted_printable, quoted_read, register_is_word, register_no_keyword, register_read, register_word, shape_read, shape_word, table_read, table_word, words_before_quote, words_behind, words_printable}}
 use Rattle.star_program.specs.declared.group.GroupKey.TheVariants as key
 use Rattle.star_program.specs.declared.op.Op.TheVariants as op
 use Rattle.star_program.specs.declared.op.Operation.TheVariants as operation
 use Rattle.star_program.specs.declared.spelling.keyword.Mnemonic.TheVariants as mnemonic
 use Rattle.star_program.specs.declared.spelling.statement.Statement.TheVariants as says
-use Rattle.star_program.proofs.Text.{LineLemmas.goes_on, LineLemmas.no_lines, WordLemmas.space_first, WrittenLemmas.flat_map_map}
-use Rattle.star_program.proofs.Text.SpelledWords.{aggregate_read, aggregate_word, behind, column_apart, column_read, column_word, constant_decimal, constant_word, count_decimal, count_word, direction_read, direction_word, is_word, name_word, mnemonic_read, mnemonic_word, quote_printable, quoted_printable, quoted_read, register_is_word, register_no_keyword, register_read, register_word, shape_read, shape_word, table_read, table_word, words_before_quote, words_behind, words_printable}
 
 -- ---- a statement and its text
 
@@ -269,10 +259,10 @@ unfolding key_word
 key_is_word key.Number = refl
 key_is_word (key.Text c) = column_word c
 
-spoken_group : (place : ℕ) (group : GroupDecl) → HasFourDigits place × All IsKey group.keys
-    → IsSpoken (says.Group place group)
+spoken_group : (index : ℕ) (group : GroupDecl) → HasFourDigits index × All IsKey group.keys
+    → IsSpoken (says.Group index group)
 unfolding group_text by_words by_keyword keyword_of keyword_name
-spoken_group place group h =
+spoken_group index group h =
     let ws : List (List ℕ) =
     map key_word group.keys ++ codes ":" ∷ map aggregate_name group.aggregates in
     let read : lists group_key_of aggregate_of_word ws ≡ Some (group.keys, group.aggregates) =
@@ -283,15 +273,15 @@ spoken_group place group h =
     lists_are_words key_word aggregate_name group.keys group.aggregates
     (λ k d small. key_is_word (slice_index_or group.keys k d))
     (λ k d small. aggregate_word (slice_index_or group.aggregates k d)) in
-    let text_is : group_text place group
-    ≡ codes "group" ++ behind (decimal place ∷ shape_name group.shape ∷ ws) =
-    ap (λ y. codes "group " ++ (decimal place ++ 32 ∷ (shape_name group.shape ++ y)))
+    let text_is : group_text index group
+    ≡ codes "group" ++ behind (decimal index ∷ shape_name group.shape ∷ ws) =
+    ap (λ y. codes "group " ++ (decimal index ++ 32 ∷ (shape_name group.shape ++ y)))
     (ap (λ y. y ++ (32 ∷ 58 ∷ flat_map aggregate_text group.aggregates)) (keys_text group.keys)
     ∙ lists_text key_word aggregate_name group.keys group.aggregates) in
-    spoken (says.Group place group) (codes "group") (decimal place ∷ shape_name group.shape ∷ ws)
+    spoken (says.Group index group) (codes "group") (decimal index ∷ shape_name group.shape ∷ ws)
     text_is refl
-    (rw (count_word place h.0, shape_word group.shape, all) refl)
-    (rw (count_decimal place h.0, shape_read group.shape, read) refl)
+    (rw (count_word index h.0, shape_word group.shape, all) refl)
+    (rw (count_decimal index h.0, shape_read group.shape, read) refl)
 
 -- ---- the other statements
 
@@ -359,7 +349,7 @@ spoken_sort (column.Aggregate a) d h =
 spoken_statement : (s : Statement) → IsSayable s → IsSpoken s
 spoken_statement says.Header h = spoken_header
 spoken_statement (says.Registers n) h = spoken_registers n h
-spoken_statement (says.Group place group) h = spoken_group place group h
+spoken_statement (says.Group index group) h = spoken_group index group h
 spoken_statement (says.Act o) h = spoken_op o h
 spoken_statement (says.Scan table t) h = spoken_scan table t h
 spoken_statement says.End h = spoken_end

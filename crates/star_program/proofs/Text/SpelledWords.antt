@@ -1,26 +1,16 @@
 -- The words of a written line, and what each is read as.
-use Rattle.std.specs.Prelude.{decimal, filter, nat_le, nat_lt, not, ℤ, pos, negsuc}
-use Rattle.std.specs.{Cmp.Lexicographic.bytes_decides, Char.is_ascii_digit, Fmt.signed_decimal, List.flat_map, List.list_all, Str.Parse.AllDigits, Str.Parse.starts_with_minus}
-use Rattle.std.proofs.Common.{◌≡◌, ◌==◌, ◌&&◌, ◌||◌, ◌<◌, ◌≤◌, ◌^◌, ◌∙◌, ◌∷◌, ◌++◌, [], ℕ, suc, Bool, true, false, List, Some, None, append_assoc, append-nil, arith, ap, refl, inl, inr, lit<, lit≤}
-use Rattle.std.proofs.lemmas.Bool.{and_parts, cases_Bool, eqb-true, le-leb, leb-true, ltb-true, ne_eqb}
-use Rattle.std.proofs.{lemmas.Fmt.decimal_is_IsNumeral, lemmas.Fmt.length-decimal-le, lemmas.List.Folds.list_all-append, lemmas.Str.Parse.digit_at, lemmas.Grind.common_steps}
+use Rattle.std.{specs.Prelude.{decimal, filter, nat_le, nat_lt, not, ℤ, pos, negsuc}, specs.Cmp.Lexicographic.bytes_decides, specs.Char.is_ascii_digit, specs.Fmt.signed_decimal, specs.List.{flat_map, list_all}, specs.Str.Parse.{AllDigits, starts_with_minus}, proofs.Common.{◌≡◌, ◌==◌, ◌&&◌, ◌||◌, ◌<◌, ◌≤◌, ◌^◌, ◌∙◌, ◌∷◌, ◌++◌, [], ℕ, suc, Bool, true, false, List, Some, None, append_assoc, append-nil, arith, ap, refl, inl, inr, lit<, lit≤}, proofs.lemmas.Bool.{and_parts, cases_Bool, eqb-true, le-leb, leb-true, ltb-true, ne_eqb}, proofs.lemmas.Fmt.{decimal_is_IsNumeral, length-decimal-le}, proofs.lemmas.List.Folds.list_all-append, proofs.lemmas.Str.Parse.digit_at, proofs.lemmas.Grind.common_steps, proofs.lemmas.Int.ints}
 use Rattle.star_interval.specs.Range.{is_i64}
 use Rattle.star_schema.specs.{Records.is_filled, Records.with_first, Schema.column_name, Schema.column_of as schema_column, Schema.table_name, Words.aggregate_name, Words.direction_name, Words.shape_name, declared.column.ColumnId.ColumnId, declared.column.ColumnId.TheVariants.DDatekey}
-use Rattle.star_schema.specs.{declared.table.TableId.TableId, declared.table.TableId.TheVariants.Date, declared.group.Aggregate.Aggregate, declared.group.Direction.Direction, declared.group.Shape.Shape}
+use Rattle.star_schema.{specs.declared.table.TableId.TableId, specs.declared.table.TableId.TheVariants.Date, specs.declared.group.Aggregate.Aggregate, specs.declared.group.Direction.Direction, specs.declared.group.Shape.Shape, proofs.NamesApart.{column_by_name, table_by_name}}
 use Rattle.star_common.specs.{Printable.is_printable, Numerals.numeral_of, Quotes.doubled, Quotes.quoted}
-use Rattle.star_schema.proofs.NamesApart.{column_by_name, table_by_name}
-use Rattle.star_program.specs.Text.Keywords.{aggregate_of_word, column_of_word, direction_of, keyword_name, keyword_of, mnemonic_name, mnemonic_of, same, shape_of_word, table_of_word}
-use Rattle.star_program.specs.Text.Numerals.{constant_of, count_of, is_show_name, is_name_byte, register_of}
-use Rattle.star_program.specs.{Text.Lines.pieces_of, Text.Lines.words_of, Text.Said.quoted_text_of, Text.Said.unquoted, Text.Spellable.IsPrinted, Text.Spellable.HasFourDigits, declared.spelling.keyword.Mnemonic.Mnemonic}
-use Rattle.star_program.proofs.Text.WordLemmas.{filtered_first, no_pieces, piece_ends, piece_on, piece_quoted, words_are, filled_whole}
-use Rattle.star_program.proofs.{Text.Quotes.plain_byte, Text.Quotes.two_quotes}
+use Rattle.star_program.{specs.Text.Keywords.{aggregate_of_word, column_of_word, direction_of, keyword_name, keyword_of, mnemonic_name, mnemonic_of, same, shape_of_word, table_of_word}, specs.Text.Numerals.{constant_of, count_of, is_show_name, is_name_byte, register_of}, specs.Text.Lines.{pieces_of, words_of}, specs.Text.Said.{quoted_text_of, unquoted}, specs.Text.Spellable.{IsPrinted, HasFourDigits}, specs.declared.spelling.keyword.Mnemonic.Mnemonic, proofs.Text.WordLemmas.{filtered_first, no_pieces, piece_ends, piece_on, piece_quoted, words_are, filled_whole}, proofs.Text.Quotes.{plain_byte, two_quotes}}
 use Rattle.star_schema.specs.declared.group.Aggregate.TheVariants as aggregate
 use Rattle.star_schema.specs.declared.group.Direction.TheVariants as direction
 use Rattle.star_schema.specs.declared.group.Shape.TheVariants as shape
 use Rattle.star_program.specs.declared.op.Edge.TheVariants as edge
 use Rattle.star_program.specs.declared.op.Operator.TheVariants as operator
 use Rattle.star_program.specs.declared.spelling.keyword.Mnemonic.TheVariants as mnemonic
-use Rattle.std.proofs.lemmas.Int.{ints}
 
 -- ---- words
 
@@ -137,9 +127,9 @@ decimal_word n small = rw (
   digits_word_bytes (decimal n) (decimal_digits n small),
 ) refl
 
-numeral_decimal : (places n : ℕ) → 0 < places → n < 10 ^ places → n < 2 ^ 64
-    → numeral_of places (decimal n) ≡ Some n
-numeral_decimal places n some short small =
+numeral_decimal : (indexes n : ℕ) → 0 < indexes → n < 10 ^ indexes → n < 2 ^ 64
+    → numeral_of indexes (decimal n) ≡ Some n
+numeral_decimal indexes n some short small =
     grind (arith, decimal_is_IsNumeral, le-leb, length-decimal-le, decimal_digits)
 
 short_below : (n : ℕ) → HasFourDigits n → n < 2 ^ 64

@@ -15,7 +15,7 @@ pub takes : (d : Draft) (s : Statement) → (s ≡ says.End → 0 < length d.sca
     → (e : Draft) × IsAdded d s e
 takes d says.Header may = (d, refl)
 takes d (says.Registers n) may = (record d { registers = n }, refl)
-takes d (says.Group place group) may = (record d { groups = d.groups ++ group ∷ [] }, refl)
+takes d (says.Group index group) may = (record d { groups = d.groups ++ group ∷ [] }, refl)
 takes d (says.Act op) may = (record d { body = followed d.body (Then op Stop) }, refl)
 takes d (says.Scan t r) may = grind arith
 takes d says.End may =

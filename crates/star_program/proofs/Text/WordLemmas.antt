@@ -1,11 +1,7 @@
 -- The first word of a line.
-use Rattle.std.proofs.Common.{◌≡◌, ◌==◌, ◌<◌, ◌||◌, ◌∙◌, ◌∷◌, [], ℕ, Bool, true, false, not, zero, suc, List, drop, take, get_or, length, arith, ap, sym, refl, ◌≢◌, Some, None, add-zero, length-drop}
-use Rattle.std.specs.{Prelude.filter, List.position}
-use Rattle.std.proofs.lemmas.Bool.{eq-eqb, eqb-false, eqb-true, ne_eqb, not-false, not-true, or_parts}
-use Rattle.std.proofs.lemmas.List.{get_or-drop, Quantifiers.position-Some}
-use Rattle.star_program.proofs.Text.Positions.{position-None}
+use Rattle.std.{proofs.Common.{◌≡◌, ◌==◌, ◌<◌, ◌||◌, ◌∙◌, ◌∷◌, [], ℕ, Bool, true, false, not, zero, suc, List, drop, take, get_or, length, arith, ap, sym, refl, ◌≢◌, Some, None, add-zero, length-drop}, specs.Prelude.filter, specs.List.position, proofs.lemmas.Bool.{eq-eqb, eqb-false, eqb-true, ne_eqb, not-false, not-true, or_parts}, proofs.lemmas.List.get_or-drop, proofs.lemmas.List.Quantifiers.position-Some}
+use Rattle.star_program.{proofs.Text.Positions.position-None, specs.Text.Lines.{pieces_of, words_of}}
 use Rattle.star_schema.specs.Records.{is_filled, with_first}
-use Rattle.star_program.specs.Text.Lines.{pieces_of, words_of}
 
 pub words_are : (line : List ℕ) → words_of line ≡ filter is_filled (pieces_of line)
 unfolding words_of
@@ -149,8 +145,7 @@ first_byte line start rest found is =
 
 pub first_last : (line : List ℕ) (start : ℕ) (rest : List ℕ)
     → position starts_word line ≡ Some start → rest ≡ drop start line
-    → position stops_word rest ≡ None
-    → words_of line ≡ rest ∷ words_of []
+    → position stops_word rest ≡ None → words_of line ≡ rest ∷ words_of []
 first_last line start rest found is none =
     let first = first_byte line start rest found is in
     first.0 ∙ last_word rest first.1 (position-None stops_word rest 0 none)

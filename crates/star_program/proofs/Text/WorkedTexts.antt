@@ -1,24 +1,12 @@
--- A program of every statement and instruction and its text; words, numbers and lines; and the first
--- fault of small texts.
-use Rattle.std.proofs.Common.{◌≡◌, ℕ, List, [], ◌∷◌, Some, None, codes, refl, true, false, pos, negsuc}
-use Rattle.std.specs.Prelude.{◌++◌, map, replicate}
-use Rattle.std.specs.Fmt.{digits}
-use Rattle.star_common.proofs.Tables.{Gives}
-use Rattle.star_common.specs.Quotes.{quoted}
-use Rattle.star_schema.specs.{Schema.table_name, Words.aggregate_name, Words.direction_name, Words.shape_name}
+-- A program of every statement and instruction and its text; words, numbers and lines; and the
+-- first fault of small texts.
+use Rattle.std.{proofs.Common.{◌≡◌, ℕ, List, [], ◌∷◌, Some, None, codes, refl, true, false, pos, negsuc}, specs.Prelude.{◌++◌, map, replicate}, specs.Fmt.digits}
+use Rattle.star_common.{proofs.Tables.Gives, specs.Quotes.quoted}
+use Rattle.star_schema.specs.{Schema.table_name, Words.{aggregate_name, direction_name, shape_name}, declared.column.ColumnId.TheVariants.{CRegion, LoQuantity}, declared.group.Aggregate.TheVariants.{Count, Max, Min, Sum}, declared.group.Direction.TheVariants.{Ascending, Descending}, declared.group.Shape.TheVariants.{Cube, Plain, Rollup}, declared.table.TableId.TheVariants.{Customer, Lineorder}}
 use Rattle.star_schema.specs.Schema as schema
-use Rattle.star_schema.specs.declared.{column.ColumnId.TheVariants.CRegion, column.ColumnId.TheVariants.LoQuantity, group.Aggregate.TheVariants.Count, group.Aggregate.TheVariants.Max, group.Aggregate.TheVariants.Min, group.Aggregate.TheVariants.Sum, group.Direction.TheVariants.Ascending, group.Direction.TheVariants.Descending, group.Shape.TheVariants.Cube, group.Shape.TheVariants.Plain, group.Shape.TheVariants.Rollup, table.TableId.TheVariants.Customer, table.TableId.TheVariants.Lineorder}
 use Rattle.star_schema.specs.declared.group.GroupColumn.TheVariants as column
 use Rattle.star_program.specs.declared.group.GroupKey.TheVariants as key
-use Rattle.star_program.specs.declared.{op.Edge.TheVariants.High, op.Edge.TheVariants.Low, op.Op.TheVariants.Assign, op.Op.TheVariants.Keep, op.Op.TheVariants.Put, op.Operation.Operation, program.Parts.Parts, spelling.fault.TextFault.TheVariants.BadHeader, spelling.fault.TextFault.TheVariants.BadLine, spelling.fault.TextFault.TheVariants.OpenScan, spelling.fault.TextFault.TheVariants.TooLarge}
-use Rattle.star_program.specs.declared.op.Operation.TheVariants.{Binary, Const, Edge, Find, Load, Not, Read, Within}
-use Rattle.star_program.specs.declared.op.Operator.TheVariants.{Add, And, Equal, Less, LessOrEqual, Mul, Or, Sub}
-use Rattle.star_program.specs.Code.{Code, Each, Stop, Then, code_size, scan_depth}
-use Rattle.star_program.specs.Text.Keywords.{aggregate_of_word, column_of_word, direction_of, keyword_name, keyword_of, mnemonic_name, mnemonic_of, shape_of_word, table_of_word}
-use Rattle.star_program.specs.Text.{Lines.is_blank_line, Lines.lines_of, Lines.pieces_of, Lines.words_of, Numerals.constant_of, Numerals.count_of, Numerals.is_show_name, Numerals.register_of, Spelling.program_statements, Statements.lines_of_code}
-use Rattle.star_program.specs.Text.FirstFaults.{advance, is_small, is_within, lines_fault, place_after, program_text_fault, start}
-use Rattle.star_program.specs.Text.Said.{by_keyword, by_words, group_column_of, group_key_of, operation_of, said, unquoted}
-use Rattle.star_program.specs.Text.Written.{assigned_text, written_column, group_text, key_text, written_line, op_text, register_text, show_text, sort_text, target_text, program_text}
+use Rattle.star_program.specs.{declared.op.Edge.TheVariants.{High, Low}, declared.op.Op.TheVariants.{Assign, Keep, Put}, declared.op.Operation.Operation, declared.program.Parts.Parts, declared.spelling.fault.TextFault.TheVariants.{BadHeader, BadLine, OpenScan, TooLarge}, declared.op.Operation.TheVariants.{Binary, Const, Edge, Find, Load, Not, Read, Within}, declared.op.Operator.TheVariants.{Add, And, Equal, Less, LessOrEqual, Mul, Or, Sub}, Code.{Code, Each, Stop, Then, code_size, scan_depth}, Text.Keywords.{aggregate_of_word, column_of_word, direction_of, keyword_name, keyword_of, mnemonic_name, mnemonic_of, shape_of_word, table_of_word}, Text.Lines.{is_blank_line, lines_of, pieces_of, words_of}, Text.Numerals.{constant_of, count_of, is_show_name, register_of}, Text.Spelling.program_statements, Text.Statements.lines_of_code, Text.FirstFaults.{advance, is_small, is_within, lines_fault, state_after, program_text_fault, start}, Text.Said.{by_keyword, by_words, group_column_of, group_key_of, operation_of, said, unquoted}, Text.Written.{assigned_text, written_column, group_text, key_text, written_line, op_text, register_text, show_text, sort_text, target_text, program_text}}
 use Rattle.star_program.specs.declared.spelling.statement.Statement.TheVariants as says
 
 -- ---- a program of all there is
@@ -77,7 +65,8 @@ is_written = refl
 
 is_said : map said (lines_of whole_text) ≡ map Some (program_statements whole)
 unfolding said by_words by_keyword lines_of lines_of_code words_of pieces_of keyword_of keyword_name
-    count_of register_of constant_of is_show_name shape_of_word shape_name aggregate_of_word aggregate_name group_key_of
+    count_of register_of constant_of is_show_name shape_of_word shape_name aggregate_of_word
+    aggregate_name group_key_of
     column_of_word table_of_word table_name mnemonic_of mnemonic_name operation_of unquoted
     group_column_of direction_of direction_name schema.column_of
 is_said = refl
@@ -140,8 +129,10 @@ says_nothing : map said
     ∷ codes "show a keys 0" ∷ codes "sort key 0" ∷ codes "sort key 0 up" ∷ [])
     ≡ replicate 24 None
 unfolding said by_words by_keyword words_of pieces_of keyword_of keyword_name count_of register_of
-    constant_of is_show_name shape_of_word shape_name aggregate_of_word aggregate_name group_key_of column_of_word
-    mnemonic_of mnemonic_name operation_of group_column_of direction_of direction_name schema.column_of
+    constant_of is_show_name shape_of_word shape_name aggregate_of_word aggregate_name group_key_of
+    column_of_word
+    mnemonic_of mnemonic_name operation_of group_column_of direction_of direction_name
+    schema.column_of
 says_nothing = refl
 
 -- ---- the first fault of a text
@@ -194,9 +185,10 @@ first_faults : Gives program_text_fault (
     )
     ∷ (after_all (codes "group 0 plain : sum sum sum sum sum sum sum sum sum\n"), Some (TooLarge 3))
     ∷ [])
-unfolding program_text_fault lines_fault start advance place_after is_within is_small said by_words
+unfolding program_text_fault lines_fault start advance state_after is_within is_small said by_words
     by_keyword lines_of lines_of_code words_of pieces_of keyword_of keyword_name count_of
-    register_of constant_of is_show_name shape_of_word shape_name aggregate_of_word aggregate_name group_key_of column_of_word
+    register_of constant_of is_show_name shape_of_word shape_name aggregate_of_word aggregate_name
+    group_key_of column_of_word
     table_of_word table_name mnemonic_of mnemonic_name operation_of unquoted group_column_of
     direction_of direction_name schema.column_of program_text written_line digits
 first_faults = refl

@@ -1,12 +1,8 @@
 -- The text of a program, part by part.
-use Rattle.std.proofs.Common.{◌≡◌, ◌≤◌, ◌∙◌, ◌+◌, ◌∷◌, ◌++◌, [], ℕ, List, Some, append_assoc, append-nil, drop, length, map, sym, ap, refl, arith}
-use Rattle.std.specs.List.{flat_map, slice_get}
-use Rattle.std.proofs.lemmas.List.{drop_all, Concat.flat_map-append}
-use Rattle.star_common.proofs.Lists.{drop_at_place}
+use Rattle.std.{proofs.Common.{◌≡◌, ◌≤◌, ◌∙◌, ◌+◌, ◌∷◌, ◌++◌, [], ℕ, List, Some, append_assoc, append-nil, drop, length, map, sym, ap, refl, arith}, specs.List.{flat_map, slice_get}, proofs.lemmas.List.drop_all, proofs.lemmas.List.Concat.flat_map-append}
+use Rattle.star_common.proofs.Lists.{drop_at_index}
 use Rattle.star_schema.specs.declared.table.TableId.{TableId}
-use Rattle.star_program.specs.{Code.Code, CodeOfSteps.before, CodeOfSteps.code_of_steps, Private.Followed.code_of_step, Text.Written.written_line, Text.Written.program_text}
-use Rattle.star_program.specs.Text.Statements.{Line, group_lines, line, lines_of_code, show_line, sort_line}
-use Rattle.star_program.specs.declared.{body.Step.Step, body.Step.TheVariants.Act, body.Step.TheVariants.Scan, group.GroupDecl.GroupDecl, op.Op.Op, program.Parts.Parts}
+use Rattle.star_program.specs.{Code.Code, CodeOfSteps.{before, code_of_steps}, Private.Followed.code_of_step, Text.Written.{written_line, program_text}, Text.Statements.{Line, group_lines, line, lines_of_code, show_line, sort_line}, declared.body.Step.Step, declared.body.Step.TheVariants.{Act, Scan}, declared.group.GroupDecl.GroupDecl, declared.op.Op.Op, declared.program.Parts.Parts}
 use Rattle.star_program.specs.declared.spelling.statement.Statement.TheVariants as says
 
 abbrev pub texts : List Line → List ℕ
@@ -20,7 +16,7 @@ pub group_more : (groups : List GroupDecl) (i : ℕ) (group : GroupDecl) (old te
     → slice_get groups i ≡ Some group → text ++ texts (group_lines i (drop i groups)) ≡ old
     → (text ++ written_line (line 0 (says.Group i group)))
     ++ texts (group_lines (i + 1) (drop (i + 1) groups)) ≡ old
-group_more groups i group old text at h = grind (arith, append_assoc, drop_at_place)
+group_more groups i group old text at h = grind (arith, append_assoc, drop_at_index)
 
 -- a step and the code after it
 step_lines : (depth : ℕ) (step : Step) (rest : Code)
@@ -37,7 +33,7 @@ step_more depth steps i step old text at h =
     let rest : Code = code_of_steps (drop (i + 1) steps) in
     let here : code_text depth (code_of_steps (drop i steps))
     ≡ code_text depth (code_of_step step) ++ code_text depth rest =
-    rw (drop_at_place steps i step at)
+    rw (drop_at_index steps i step at)
     (ap texts (step_lines depth step rest)
     ∙ flat_map-append written_line (lines_of_code depth (code_of_step step))
     (lines_of_code depth rest)) in
@@ -77,6 +73,5 @@ unfolding program_text
 parts_text p = grind (arith, flat_map-append, flat_map_map, append_assoc)
 
 pub chained : (n1 n2 n3 n4 n5 n6 a b c d e f : List ℕ) → n1 ≡ a → n2 ≡ n1 ++ b → n3 ≡ n2 ++ c
-    → n4 ≡ n3 ++ d → n5 ≡ n4 ++ e → n6 ≡ n5 ++ f
-    → n6 ≡ a ++ (b ++ (c ++ (d ++ (e ++ f))))
+    → n4 ≡ n3 ++ d → n5 ≡ n4 ++ e → n6 ≡ n5 ++ f → n6 ≡ a ++ (b ++ (c ++ (d ++ (e ++ f))))
 chained n1 n2 n3 n4 n5 n6 a b c d e f p q r s t u = rw (u, t, s, r, q, p) (simp append_assoc)

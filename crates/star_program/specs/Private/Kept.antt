@@ -1,7 +1,6 @@
 -- The cell in a storage.
-use Rattle.star_program.specs.declared.outcome.{Cell.Cell, Kept.Kept}
+use Rattle.star_program.specs.declared.outcome.{Cell.Cell, Kept.Kept, Kept.TheVariants.{Number, Wide, Text, All, Null}}
 use Rattle.star_program.specs.declared.outcome.Cell.TheVariants as cell
-use Rattle.star_program.specs.declared.outcome.Kept.TheVariants.{Number, Wide, Text, All, Null}
 
 abbrev pub cell_view : Kept → Cell
 cell_view (Number z) = cell.Number z

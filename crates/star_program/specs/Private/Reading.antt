@@ -9,7 +9,8 @@ IsMissed fault expected = UnlessMemory OutOfMemory fault ((fault ≡ Unreadable)
 
 -- the result is that of the words, unless memory ran out
 abbrev pub Reads : {A : Type 0} → Result A LineFault → Option A → Type 0
-Reads result expected = MatchResult result (λ x. expected ≡ Some x) (λ fault. IsMissed fault expected)
+Reads result expected =
+    MatchResult result (λ x. expected ≡ Some x) (λ fault. IsMissed fault expected)
 
 -- a quote that only spaces follow
 abbrev pub closes : List ℕ → Bool

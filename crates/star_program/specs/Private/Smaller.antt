@@ -1,6 +1,5 @@
 -- Each body inside a body is smaller than it.
-use Rattle.std.specs.Prelude.{◌≤◌, List, [], ◌∷◌}
-use Rattle.std.proofs.Common.{arith}
+use Rattle.std.{specs.Prelude.{◌≤◌, List, [], ◌∷◌}, proofs.Common.arith}
 use denote.Param.Weighed.{most}
 use Rattle.star_program.specs.{Code.code_size, CodeOfSteps.code_of_steps, declared.body.Step.Step, declared.body.Step.TheVariants.Act, declared.body.Step.TheVariants.Scan, declared.body.Body.TheDeep.deep-Step}
 

@@ -1,7 +1,6 @@
 -- The printed form of text errors.
 use Rattle.std.specs.Prelude.{◌++◌, ℕ, List, codes, decimal}
-use Rattle.star_program.specs.declared.spelling.fault.TextFault.{TextFault}
-use Rattle.star_program.specs.declared.spelling.fault.TextFault.TheVariants.{OutOfMemory, BadHeader, BadLine, OpenScan, TooLarge}
+use Rattle.star_program.specs.declared.spelling.fault.TextFault.{TextFault, TheVariants.{OutOfMemory, BadHeader, BadLine, OpenScan, TooLarge}}
 
 -- the number and name of an error, with its line
 unfoldable pub text_fault_text : TextFault → List ℕ

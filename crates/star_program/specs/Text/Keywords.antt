@@ -1,8 +1,6 @@
 -- The keywords of programs.
-use Rattle.std.specs.Prelude.{ℕ, List, Option, codes, nat_eq, Bool}
-use Rattle.std.specs.Cmp.Lexicographic.{pointwise}
-use Rattle.star_schema.specs.declared.{column.ColumnId.ColumnId, column.TheConstants.COLUMNS, table.TableId.TableId, table.TheConstants.TABLES, group.Shape.Shape, group.Aggregate.Aggregate, group.Direction.Direction, group.TheConstants.SHAPES, group.TheConstants.AGGREGATES, group.TheConstants.DIRECTIONS}
-use Rattle.star_schema.specs.{Schema.column_name, Schema.table_name, Words.aggregate_name, Words.direction_name, Words.named, Words.shape_name}
+use Rattle.std.specs.{Prelude.{ℕ, List, Option, codes, nat_eq, Bool}, Cmp.Lexicographic.pointwise}
+use Rattle.star_schema.specs.{declared.column.ColumnId.ColumnId, declared.column.TheConstants.COLUMNS, declared.table.TableId.TableId, declared.table.TheConstants.TABLES, declared.group.Shape.Shape, declared.group.Aggregate.Aggregate, declared.group.Direction.Direction, declared.group.TheConstants.{SHAPES, AGGREGATES, DIRECTIONS}, Schema.{column_name, table_name}, Words.{aggregate_name, direction_name, named, shape_name}}
 use Rattle.star_program.specs.declared.spelling.keyword.{Keyword.Keyword, Mnemonic.Mnemonic, TheConstants.KEYWORDS, TheConstants.MNEMONICS}
 use Rattle.star_program.specs.declared.spelling.keyword.Keyword.TheVariants as keyword
 use Rattle.star_program.specs.declared.op.Edge.TheVariants as edge

@@ -1,6 +1,5 @@
 -- The lines of a text, and the words of a line.
-use Rattle.std.specs.Prelude.{◌==◌, ◌&&◌, if◌then◌else◌, Bool, false, ℕ, List, [], ◌∷◌, filter}
-use Rattle.std.specs.List.{list_all}
+use Rattle.std.specs.{Prelude.{◌==◌, ◌&&◌, if◌then◌else◌, Bool, false, ℕ, List, [], ◌∷◌, filter}, List.list_all}
 use Rattle.star_schema.specs.Records.{is_filled, with_first}
 
 abbrev pub begins_with : ℕ → List ℕ → Bool

@@ -1,6 +1,5 @@
 -- Numbers, registers and names in programs.
-use Rattle.std.specs.Prelude.{◌==◌, ◌&&◌, ◌||◌, if◌then◌else◌, Bool, ℕ, ℤ, List, Option, Some, None, drop, length, nat_le, neg_ℤ, pos}
-use Rattle.std.specs.{List.list_all, Option.option_map, Char.is_ascii_alphanumeric, Str.Parse.starts_with_minus}
+use Rattle.std.specs.{Prelude.{◌==◌, ◌&&◌, ◌||◌, if◌then◌else◌, Bool, ℕ, ℤ, List, Option, Some, None, drop, length, nat_le, neg_ℤ, pos}, List.list_all, Option.option_map, Char.is_ascii_alphanumeric, Str.Parse.starts_with_minus}
 use Rattle.star_common.specs.Numerals.{numeral_of}
 use Rattle.star_program.specs.Text.Lines.{begins_with}
 

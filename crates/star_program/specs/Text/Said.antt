@@ -1,12 +1,9 @@
 -- The statement of a line.
-use Rattle.std.specs.Prelude.{ℕ, ◌==◌, ◌&&◌, if◌then◌else◌, List, [], ◌∷◌, Option, Some, None, codes, filter, map, not}
-use Rattle.std.specs.{List.list_all, Option.option_and_then, Option.option_map}
+use Rattle.std.specs.{Prelude.{ℕ, ◌==◌, ◌&&◌, if◌then◌else◌, List, [], ◌∷◌, Option, Some, None, codes, filter, map, not}, List.list_all, Option.{option_and_then, option_map}}
 use Rattle.star_common.specs.Printable.{is_printable}
 use Rattle.star_schema.specs.declared.{column.ColumnId.ColumnId, group.GroupColumn.GroupColumn, group.Shape.Shape, group.SortKey.SortKey}
 use Rattle.star_schema.specs.declared.group.GroupColumn.TheVariants as column
-use Rattle.star_program.specs.{World.is_text, Text.Lines.is_blank_line, Text.Lines.words_of, Text.Numerals.constant_of, Text.Numerals.count_of, Text.Numerals.is_show_name, Text.Numerals.register_of}
-use Rattle.star_program.specs.Text.Keywords.{aggregate_of_word, column_of_word, direction_of, keyword_of, mnemonic_of, same, shape_of_word, table_of_word}
-use Rattle.star_program.specs.declared.{group.GroupKey.GroupKey, op.Op.Op, op.Operation.Operation, program.Show.Show, spelling.keyword.Keyword.Keyword, spelling.keyword.Mnemonic.Mnemonic, spelling.statement.Statement.Statement}
+use Rattle.star_program.specs.{World.is_text, Text.Lines.{is_blank_line, words_of}, Text.Numerals.{constant_of, count_of, is_show_name, register_of}, Text.Keywords.{aggregate_of_word, column_of_word, direction_of, keyword_of, mnemonic_of, same, shape_of_word, table_of_word}, declared.group.GroupKey.GroupKey, declared.op.Op.Op, declared.op.Operation.Operation, declared.program.Show.Show, declared.spelling.keyword.Keyword.Keyword, declared.spelling.keyword.Mnemonic.Mnemonic, declared.spelling.statement.Statement.Statement}
 use Rattle.star_program.specs.declared.group.GroupKey.TheVariants as key
 use Rattle.star_program.specs.declared.op.Op.TheVariants as op
 use Rattle.star_program.specs.declared.op.Operation.TheVariants as operation
@@ -104,8 +101,8 @@ group_head (w ∷ []) = None
 group_head (w ∷ v ∷ ws) = both (count_of w) (both (shape_of_word v) (Some ws))
 
 abbrev pub group_of : List (List ℕ) → Option Statement
-group_of ws = option_and_then (λ (place, (shape, rest)).
-    option_map (λ (keys, aggregates). says.Group place (record { shape = shape; keys = keys; aggregates = aggregates })) (lists group_key_of aggregate_of_word rest))
+group_of ws = option_and_then (λ (index, (shape, rest)).
+    option_map (λ (keys, aggregates). says.Group index (record { shape = shape; keys = keys; aggregates = aggregates })) (lists group_key_of aggregate_of_word rest))
     (group_head ws)
 
 -- the number of a group and the words after it
@@ -121,9 +118,9 @@ name_of word = if is_show_name word then Some word else None
 
 -- a column of a group
 unfoldable pub group_column_of : List ℕ → List ℕ → Option GroupColumn
-group_column_of word place =
-    if same word (codes "key") then option_map column.Key (count_of place)
-    else if same word (codes "aggregate") then option_map column.Aggregate (count_of place)
+group_column_of word index =
+    if same word (codes "key") then option_map column.Key (count_of index)
+    else if same word (codes "aggregate") then option_map column.Aggregate (count_of index)
     else None
 
 abbrev pub show_of : List (List ℕ) → Option Show
@@ -134,7 +131,7 @@ show_of (name ∷ word ∷ ws) = option_map (λ (n, c). record { name = n; colum
 abbrev pub sort_of : List (List ℕ) → Option SortKey
 sort_of [] = None
 sort_of (word ∷ []) = None
-sort_of (word ∷ place ∷ ws) = option_map (λ (c, d). record { column = c; direction = d }) (both (group_column_of word place) (from_one_word direction_of ws))
+sort_of (word ∷ index ∷ ws) = option_map (λ (c, d). record { column = c; direction = d }) (both (group_column_of word index) (from_one_word direction_of ws))
 
 abbrev pub header_of : List (List ℕ) → Option Statement
 header_of [] = None

@@ -1,12 +1,10 @@
 -- Programs that some text spells.
-use Rattle.std.specs.Prelude.{◌≡◌, ◌≤◌, ℕ, List, All, true}
-use Rattle.std.specs.List.{list_all}
+use Rattle.std.specs.{Prelude.{◌≡◌, ◌≤◌, ℕ, List, All, true}, List.list_all}
 use Rattle.star_common.specs.Printable.{is_printable}
 use Rattle.star_interval.specs.Range.{is_i64}
 use Rattle.star_schema.specs.declared.group.GroupColumn.{GroupColumn}
 use Rattle.star_schema.specs.declared.group.GroupColumn.TheVariants as column
-use Rattle.star_program.specs.{World.is_text, Text.Numerals.is_show_name, Text.Spelling.Spells, Text.Spelling.program_statements, Text.Written.program_text}
-use Rattle.star_program.specs.declared.{group.GroupKey.GroupKey, op.Op.Op, op.Operation.Operation, program.Parts.Parts, spelling.statement.Statement.Statement}
+use Rattle.star_program.specs.{World.is_text, Text.Numerals.is_show_name, Text.Spelling.{Spells, program_statements}, Text.Written.program_text, declared.group.GroupKey.GroupKey, declared.op.Op.Op, declared.op.Operation.Operation, declared.program.Parts.Parts, declared.spelling.statement.Statement.Statement}
 use Rattle.star_program.specs.declared.group.GroupKey.TheVariants as key
 use Rattle.star_program.specs.declared.op.Op.TheVariants as op
 use Rattle.star_program.specs.declared.op.Operation.TheVariants as operation
@@ -48,7 +46,7 @@ IsSpellableOp (op.Put g keys values) = HasFourDigits g × All HasFourDigits keys
 abbrev pub IsSayable : Statement → Type 0
 IsSayable says.Header = Unit {0}
 IsSayable (says.Registers n) = HasFourDigits n
-IsSayable (says.Group place group) = HasFourDigits place × All IsKey group.keys
+IsSayable (says.Group index group) = HasFourDigits index × All IsKey group.keys
 IsSayable (says.Act o) = IsSpellableOp o
 IsSayable (says.Scan table t) = HasFourDigits t
 IsSayable says.End = Unit {0}

@@ -1,8 +1,6 @@
 -- The statements of a program, one for each line, with the nesting depth of scans.
-use Rattle.std.specs.Prelude.{ℕ, ◌+◌, List, [], ◌∷◌, ◌++◌, map}
-use Rattle.std.specs.{List.enumerate_from}
-use Rattle.star_program.specs.declared.spelling.statement.Statement.TheVariants.{Header, Registers, Group, Act, Scan, End, Report}
-use Rattle.star_program.specs.{Code.Code, Code.Stop, Code.Then, Code.Each, declared.program.Parts.Parts, declared.spelling.statement.Statement.Statement, declared.group.GroupDecl.GroupDecl, declared.program.Show.Show}
+use Rattle.std.specs.{Prelude.{ℕ, ◌+◌, List, [], ◌∷◌, ◌++◌, map}, List.enumerate_from}
+use Rattle.star_program.specs.{declared.spelling.statement.Statement.TheVariants.{Header, Registers, Group, Act, Scan, End, Report}, Code.{Code, Stop, Then, Each}, declared.program.Parts.Parts, declared.spelling.statement.Statement.Statement, declared.group.GroupDecl.GroupDecl, declared.program.Show.Show}
 use Rattle.star_schema.specs.declared.group.SortKey.{SortKey}
 use Rattle.star_program.specs.declared.spelling.statement.Statement.TheVariants as says
 
@@ -22,7 +20,7 @@ lines_of_code depth (Each table target body rest) =
     line depth (Scan table target) ∷ (lines_of_code (depth + 1) body ++ line depth End ∷ lines_of_code depth rest)
 
 abbrev pub group_lines : ℕ → List GroupDecl → List Line
-group_lines from groups = map (λ (place, group). line 0 (Group place group)) (enumerate_from from groups)
+group_lines from groups = map (λ (index, group). line 0 (Group index group)) (enumerate_from from groups)
 
 abbrev pub show_line : Show → Line
 show_line show = line 0 (says.Show show)

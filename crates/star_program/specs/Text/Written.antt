@@ -1,11 +1,9 @@
 -- The text of a program.
-use Rattle.std.specs.Prelude.{ℕ, ◌*◌, List, [], ◌∷◌, ◌++◌, codes, decimal, replicate}
-use Rattle.std.specs.{Fmt.signed_decimal, List.flat_map}
+use Rattle.std.specs.{Prelude.{ℕ, ◌*◌, List, [], ◌∷◌, ◌++◌, codes, decimal, replicate}, Fmt.signed_decimal, List.flat_map}
 use Rattle.star_common.specs.Quotes.{quoted}
 use Rattle.star_schema.specs.{Schema.column_name, Schema.table_name, Words.aggregate_name, Words.direction_name, Words.shape_name}
 use Rattle.star_schema.specs.declared.group.{Aggregate.Aggregate as Aggregation, GroupColumn.GroupColumn, GroupColumn.TheVariants.Key, GroupColumn.TheVariants.Aggregate, SortKey.SortKey}
-use Rattle.star_program.specs.Text.{Keywords.mnemonic_name, Statements.Line, Statements.lines_of_program}
-use Rattle.star_program.specs.declared.{group.GroupDecl.GroupDecl, group.GroupKey.GroupKey, group.GroupKey.TheVariants.Number, group.GroupKey.TheVariants.Text, op.Op.Op, op.Operation.Operation, program.Parts.Parts, program.Show.Show, spelling.keyword.Mnemonic.Mnemonic, spelling.statement.Statement.Statement}
+use Rattle.star_program.specs.{Text.Keywords.mnemonic_name, Text.Statements.{Line, lines_of_program}, declared.group.GroupDecl.GroupDecl, declared.group.GroupKey.GroupKey, declared.group.GroupKey.TheVariants.{Number, Text}, declared.op.Op.Op, declared.op.Operation.Operation, declared.program.Parts.Parts, declared.program.Show.Show, declared.spelling.keyword.Mnemonic.Mnemonic, declared.spelling.statement.Statement.Statement}
 use Rattle.star_program.specs.declared.op.Op.TheVariants as op
 use Rattle.star_program.specs.declared.op.Operation.TheVariants as operation
 use Rattle.star_program.specs.declared.spelling.keyword.Mnemonic.TheVariants as mnemonic
@@ -43,8 +41,8 @@ abbrev pub aggregate_text : Aggregation → List ℕ
 aggregate_text a = 32 ∷ aggregate_name a
 
 unfoldable pub group_text : ℕ → GroupDecl → List ℕ
-group_text place group =
-    codes "group " ++ (decimal place ++ (codes " " ++ (shape_name group.shape
+group_text index group =
+    codes "group " ++ (decimal index ++ (codes " " ++ (shape_name group.shape
     ++ (flat_map key_text group.keys ++ (codes " :" ++ flat_map aggregate_text group.aggregates)))))
 
 unfoldable pub written_column : GroupColumn → List ℕ
@@ -60,7 +58,7 @@ sort_text key = codes "sort" ++ (written_column key.column ++ (codes " " ++ dire
 abbrev pub statement_text : Statement → List ℕ
 statement_text says.Header = codes "star program 1"
 statement_text (says.Registers n) = codes "registers " ++ decimal n
-statement_text (says.Group place group) = group_text place group
+statement_text (says.Group index group) = group_text index group
 statement_text (says.Act o) = op_text o
 statement_text (says.Scan table t) = codes "scan " ++ (table_name table ++ register_text t)
 statement_text says.End = codes "end"

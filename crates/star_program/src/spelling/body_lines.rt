@@ -1,7 +1,6 @@
 // Writing the lines of a body.
 
-ghost use Rattle.std.specs.Prelude.{◌≡◌, ◌≤◌, ◌+◌, ◌++◌, OnOk};
-ghost use Rattle.std.specs.{List.flat_map};
+ghost use Rattle.std.specs.{Prelude.{◌≡◌, ◌≤◌, ◌+◌, ◌++◌, OnOk}, List.flat_map};
 ghost use Rattle.star_program.specs.{Code.scan_depth, Private.Followed.code_of_step, Text.Statements.lines_of_code, Text.Written.written_line};
 
 use crate::body::{Body, Step};

@@ -1,16 +1,15 @@
 // The lines of a text, and the words of a line.
 
-ghost use Rattle.std.specs.Prelude.{◌≡◌, ◌∷◌, ◌==◌, ◌||◌, ◌<◌, ◌≤◌, ◌+◌, [], IfSome, MatchOption, drop, length, not};
-ghost use Rattle.std.specs.List.{position};
+ghost use Rattle.std.specs.{Prelude.{◌≡◌, ◌∷◌, ◌==◌, ◌||◌, ◌<◌, ◌≤◌, ◌+◌, [], IfSome, MatchOption, drop, length, not}, List.position};
 ghost use Rattle.star_program.specs.Private.Returns as returns;
 ghost use Rattle.star_program.specs.Text.Lines as spec;
 
 // Returns the bytes from an index on.
-fn from_place(bytes: &[u8], place: usize) -> &[u8]
-    requires { place ≤ length bytes.now }
-    ensures { result.now ≡ drop place bytes.now }
+fn from_index(bytes: &[u8], index: usize) -> &[u8]
+    requires { index ≤ length bytes.now }
+    ensures { result.now ≡ drop index bytes.now }
 {
-    &bytes[place..]
+    &bytes[index..]
 }
 
 fn line_end(text: &[u8]) -> Option<usize>
@@ -39,7 +38,7 @@ pub(crate) fn split_line(text: &[u8]) -> Option<(&[u8], &[u8])>
         return None;
     }
     match line_end(text) {
-        Some(end) => Some((without_return(&text[..end]), from_place(text, end + 1))),
+        Some(end) => Some((without_return(&text[..end]), from_index(text, end + 1))),
         None => Some((text, &[])),
     }
 }
@@ -64,12 +63,12 @@ pub(crate) fn split_word(line: &[u8]) -> Option<(&[u8], &[u8])>
     ensures shorter { IfSome result (λ parts. length parts.1.now < length line.now) }
 {
     let start = word_start(line)?;
-    let rest = from_place(line, start);
+    let rest = from_index(line, start);
     let Some(end) = word_end(rest) else {
         return Some((rest, &[]));
     };
     if rest[end] == b' ' {
-        Some((&rest[..end], from_place(rest, end + 1)))
+        Some((&rest[..end], from_index(rest, end + 1)))
     } else {
         Some((rest, &[]))
     }

@@ -1,7 +1,6 @@
 // Lists of words, and quoted texts.
 
-ghost use Rattle.std.specs.Prelude.{◌≡◌, ◌∷◌, ◌<◌, ℕ, List, Option, Some, None, [], IfSome, MatchOption, MatchResult, length, if◌then◌else◌};
-ghost use Rattle.std.specs.{Option.option_map};
+ghost use Rattle.std.specs.{Prelude.{◌≡◌, ◌∷◌, ◌<◌, ℕ, List, Option, Some, None, [], IfSome, MatchOption, MatchResult, length, if◌then◌else◌}, Option.option_map};
 ghost use Rattle.star_program.specs.{Text.Lines.words_of, Text.Numerals.register_of};
 ghost use Rattle.star_program.specs.Private.Reading as reading;
 ghost use Rattle.star_program.specs.Text.Keywords as words;
@@ -78,8 +77,7 @@ pub(crate) fn read_table(word: &[u8]) -> Option<TableId>
 
 // Reads the words up to a colon, and returns the line after it.
 fn read_until_colon<T: Listed>(alloc: Global, line: &[u8]) -> Result<(Items<T>, &[u8]), LineFault>
-    ensures { MatchResult result
-        (λ parts. spec.until_colon T.meaning (words_of line.now)
+    ensures { MatchResult result (λ parts. spec.until_colon T.meaning (words_of line.now)
         ≡ Some (parts.0, words_of parts.1.now))
         (λ fault. reading.IsMissed fault (spec.until_colon T.meaning (words_of line.now))) }
 {

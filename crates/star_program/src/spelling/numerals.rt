@@ -1,19 +1,18 @@
 // The words of numbers, registers and names.
 
-ghost use Rattle.std.specs.Prelude.{◌≡◌, ◌<◌, ◌≤◌, ◌^◌, Some, IfSome, neg_ℤ, pos};
-ghost use Rattle.std.specs.{Option.option_map, List.list_all};
+ghost use Rattle.std.specs.{Prelude.{◌≡◌, ◌<◌, ◌≤◌, ◌^◌, Some, IfSome, neg_ℤ, pos}, Option.option_map, List.list_all};
 ghost use Rattle.star_common.specs.Numerals.{numeral_of};
 ghost use Rattle.star_program.specs.Text.Numerals as spec;
 
 use star_common::numeral_value;
 
-// Returns the number that 1 to `places` digits write.
-fn numeral(places: usize, word: &[u8]) -> Option<u64>
-    requires { places ≤ 19 }
-    ensures value { result ≡ numeral_of places word.now }
-    ensures bound { IfSome result (λ number. number < 10 ^ places) }
+// Returns the number that 1 to `width` digits write.
+fn numeral(width: usize, word: &[u8]) -> Option<u64>
+    requires { width ≤ 19 }
+    ensures value { result ≡ numeral_of width word.now }
+    ensures bound { IfSome result (λ number. number < 10 ^ width) }
 {
-    if word.len() > places {
+    if word.len() > width {
         return None;
     }
     numeral_value(word)

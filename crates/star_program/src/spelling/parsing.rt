@@ -8,23 +8,23 @@ use crate::program::Parts;
 use crate::spelling::draft::Draft;
 use crate::spelling::fault::TextFault;
 use crate::spelling::lines::{is_blank, split_line};
-use crate::spelling::place::{Place, advance};
+use crate::spelling::text_state::{TextState, advance};
 use std::alloc::Global;
 
 // Reads a line that is not blank: its statement is added to the draft. Returns the state after it.
 fn take_statement(
     alloc: Global,
-    place: Place,
+    state: TextState,
     draft: &mut Draft,
     line: usize,
     text: &[u8],
-) -> Result<Place, TextFault>
-    requires at { spec.IsAt place draft.old }
+) -> Result<TextState, TextFault>
+    requires at { spec.IsAt state draft.old }
     requires filled { blank text.now ≡ false }
-    ensures { MatchResult result (λ next. spec.IsPassed place draft.old line text.now next
-        draft.new) (λ fault. spec.IsLineRefused fault place line text.now) }
+    ensures { MatchResult result (λ next. spec.IsPassed state draft.old line text.now next
+        draft.new) (λ fault. spec.IsLineRefused fault state line text.now) }
 {
-    match advance(alloc, place, line, text) {
+    match advance(alloc, state, line, text) {
         Ok((next, statement)) => {
             draft.add(statement)?;
             Ok(next)
@@ -36,19 +36,19 @@ fn take_statement(
 // Reads a line, and returns the state after it. A blank one changes nothing.
 fn take_line(
     alloc: Global,
-    place: Place,
+    state: TextState,
     draft: &mut Draft,
     line: usize,
     text: &[u8],
-) -> Result<Place, TextFault>
-    requires { spec.IsAt place draft.old }
-    ensures { MatchResult result (λ next. spec.IsPassed place draft.old line text.now next
-        draft.new) (λ fault. spec.IsLineRefused fault place line text.now) }
+) -> Result<TextState, TextFault>
+    requires { spec.IsAt state draft.old }
+    ensures { MatchResult result (λ next. spec.IsPassed state draft.old line text.now next
+        draft.new) (λ fault. spec.IsLineRefused fault state line text.now) }
 {
     if is_blank(text) {
-        Ok(place)
+        Ok(state)
     } else {
-        take_statement(alloc, place, draft, line, text)
+        take_statement(alloc, state, draft, line, text)
     }
 }
 
@@ -57,16 +57,16 @@ pub(crate) fn read_parts(alloc: Global, text: &[u8]) -> Result<Parts, TextFault>
     ensures { MatchResult result (λ parts. Spells text.now parts × IsWithinLimits parts)
         (λ fault. IsFirstTextFault text.now fault) }
 {
-    let mut place = Place::start();
+    let mut state = TextState::start();
     let mut draft = Draft::new(alloc);
     let mut line = 1;
     let mut rest = text;
     while let Some((first, after)) = split_line(rest) {
-        place = take_line(alloc, place, &mut draft, line, first)?;
+        state = take_line(alloc, state, &mut draft, line, first)?;
         rest = after;
         line += 1;
     }
-    match place.end_fault(line) {
+    match state.end_fault(line) {
         Some(fault) => Err(fault),
         None => Ok(draft.finish()),
     }

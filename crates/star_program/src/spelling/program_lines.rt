@@ -1,7 +1,6 @@
 // Writing the lines of a program.
 
-ghost use Rattle.std.specs.Prelude.{◌≡◌, ◌*◌, ◌≤◌, ◌<◌, ◌++◌, Some, OnOk, IfOk, length, replicate, slice_get};
-ghost use Rattle.std.specs.List.{flat_map};
+ghost use Rattle.std.specs.{Prelude.{◌≡◌, ◌*◌, ◌≤◌, ◌<◌, ◌++◌, Some, OnOk, IfOk, length, replicate, slice_get}, List.flat_map};
 ghost use Rattle.star_program.specs.Text.Statements as lines;
 ghost use Rattle.star_program.specs.Text.Written as spec;
 ghost use Rattle.star_program.specs.declared.spelling.statement.Statement.TheVariants as says;
@@ -81,20 +80,20 @@ fn push_head(out: &mut Vec<u8>, registers: u16) -> Result<(), AllocError>
 }
 
 #[tactic(auto, unfolding(crate::specs::Text::Written::written_line))]
-fn push_group_line(out: &mut Vec<u8>, place: u16, group: &GroupDecl) -> Result<(), AllocError>
+fn push_group_line(out: &mut Vec<u8>, index: u16, group: &GroupDecl) -> Result<(), AllocError>
     ensures { OnOk result (out.new.items ≡ out.old.items
-        ++ spec.written_line (lines.line 0 (says.Group place group.now))) }
+        ++ spec.written_line (lines.line 0 (says.Group index group.now))) }
 {
-    push_group(out, place, group)?;
+    push_group(out, index, group)?;
     out.push(b'\n')?;
     Ok(())
 }
 
-fn group_at(groups: &[GroupDecl], place: usize) -> &GroupDecl
-    requires { place < length groups.now }
-    ensures { slice_get groups.now place ≡ Some result.now }
+fn group_at(groups: &[GroupDecl], index: usize) -> &GroupDecl
+    requires { index < length groups.now }
+    ensures { slice_get groups.now index ≡ Some result.now }
 {
-    &groups[place]
+    &groups[index]
 }
 
 fn push_groups(out: &mut Vec<u8>, groups: &[GroupDecl]) -> Result<(), AllocError>
@@ -102,8 +101,8 @@ fn push_groups(out: &mut Vec<u8>, groups: &[GroupDecl]) -> Result<(), AllocError
     ensures { OnOk result (out.new.items ≡ out.old.items
         ++ flat_map spec.written_line (lines.group_lines 0 groups.now)) }
 {
-    for place in 0..groups.len() {
-        push_group_line(out, place as u16, group_at(groups, place))?;
+    for index in 0..groups.len() {
+        push_group_line(out, index as u16, group_at(groups, index))?;
     }
     Ok(())
 }

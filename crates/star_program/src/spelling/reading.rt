@@ -1,7 +1,6 @@
 // Reading a statement from a line, word by word.
 
-ghost use Rattle.std.specs.Prelude.{◌≡◌, ◌≢◌, ◌∷◌, [], None, Some, MatchOption, MatchResult, length};
-ghost use Rattle.std.specs.{Option.option_copied, Option.option_map};
+ghost use Rattle.std.specs.{Prelude.{◌≡◌, ◌≢◌, ◌∷◌, [], None, Some, MatchOption, MatchResult, length}, Option.{option_copied, option_map}};
 ghost use Rattle.star_program.specs.{Private.Reading.Reads, Text.Lines.words_of};
 ghost use Rattle.star_program.specs.Text.Keywords as words;
 ghost use Rattle.star_program.specs.Text.Numerals as numerals;
@@ -202,22 +201,22 @@ fn group_head(line: &[u8]) -> Option<(u16, (Shape, &[u8]))>
     ensures { option_map (λ head. (head.0, (head.1.0, words_of head.1.1.now))) result
         ≡ spec.group_head (words_of line.now) }
 {
-    let (place, rest) = split_word(line)?;
+    let (index, rest) = split_word(line)?;
     let (shape, rest) = split_word(rest)?;
-    Some((read_count(place)?, (first_named(&SHAPES, shape)?, rest)))
+    Some((read_count(index)?, (first_named(&SHAPES, shape)?, rest)))
 }
 
 fn read_group(alloc: Global, line: &[u8]) -> Result<Statement, LineFault>
     ensures { Reads result (spec.group_of (words_of line.now)) }
 {
-    let (place, (shape, rest)) = readable(group_head(line))?;
+    let (index, (shape, rest)) = readable(group_head(line))?;
     let (keys, aggregates) = read_lists(alloc, rest)?;
     let group = GroupDecl {
         shape,
         keys,
         aggregates,
     };
-    Ok(Statement::Group { place, group })
+    Ok(Statement::Group { index, group })
 }
 
 // Reads the number of a group, and returns the line after it.
@@ -243,13 +242,13 @@ fn read_put(alloc: Global, line: &[u8]) -> Result<Op, LineFault>
 
 // Reads a column of a group.
 #[tactic(auto, unfolding(crate::specs::Text::Said::group_column_of))]
-fn read_group_column(word: &[u8], place: &[u8]) -> Option<GroupColumn>
-    ensures { result ≡ spec.group_column_of word.now place.now }
+fn read_group_column(word: &[u8], index: &[u8]) -> Option<GroupColumn>
+    ensures { result ≡ spec.group_column_of word.now index.now }
 {
     if word == "key".as_bytes() {
-        Some(GroupColumn::Key(read_count(place)?))
+        Some(GroupColumn::Key(read_count(index)?))
     } else if word == "aggregate".as_bytes() {
-        Some(GroupColumn::Aggregate(read_count(place)?))
+        Some(GroupColumn::Aggregate(read_count(index)?))
     } else {
         None
     }
@@ -259,9 +258,9 @@ fn read_group_column(word: &[u8], place: &[u8]) -> Option<GroupColumn>
 fn read_sort(line: &[u8]) -> Option<SortKey>
     ensures { result ≡ spec.sort_of (words_of line.now) }
 {
-    let (word, place, direction) = three_words(line)?;
+    let (word, index, direction) = three_words(line)?;
     Some(SortKey {
-        column: read_group_column(word, place)?,
+        column: read_group_column(word, index)?,
         direction: first_named(&DIRECTIONS, direction)?,
     })
 }
@@ -277,8 +276,8 @@ fn show_parts(line: &[u8]) -> Option<(&[u8], GroupColumn)>
     ensures { option_map (λ parts. record { name = parts.0.now; column = parts.1 }) result
         ≡ spec.show_of (words_of line.now) }
 {
-    let (name, word, place) = three_words(line)?;
-    Some((read_name(name)?, read_group_column(word, place)?))
+    let (name, word, index) = three_words(line)?;
+    Some((read_name(name)?, read_group_column(word, index)?))
 }
 
 fn read_show(alloc: Global, line: &[u8]) -> Result<Show, LineFault>

@@ -10,7 +10,7 @@ use star_schema::{SortKey, TableId};
 pub enum Statement {
     Header,
     Registers(u16),
-    Group { place: u16, group: GroupDecl },
+    Group { index: u16, group: GroupDecl },
     Act(Op),
     Scan { table: TableId, target: u16 },
     End,

@@ -1,7 +1,6 @@
 // Writing the statements of a program.
 
-ghost use Rattle.std.specs.Prelude.{◌≡◌, ◌++◌, ℕ, List, OnOk, codes, decimal};
-ghost use Rattle.std.specs.{Fmt.signed_decimal, List.flat_map};
+ghost use Rattle.std.specs.{Prelude.{◌≡◌, ◌++◌, ℕ, List, OnOk, codes, decimal}, Fmt.signed_decimal, List.flat_map};
 ghost use Rattle.star_schema.specs.Schema.{column_name, table_name};
 ghost use Rattle.star_common.specs.Quotes.{quoted};
 ghost use Rattle.star_program.specs.Text.Written as spec;
@@ -267,11 +266,11 @@ impl Written for Aggregate {
 
 // Appends a group by its number.
 #[tactic(auto, unfolding(crate::specs::Text::Written::group_text))]
-pub(crate) fn push_group(out: &mut Vec<u8>, place: u16, group: &GroupDecl) -> Result<(), AllocError>
-    ensures { OnOk result (out.new.items ≡ out.old.items ++ spec.group_text place group.now) }
+pub(crate) fn push_group(out: &mut Vec<u8>, index: u16, group: &GroupDecl) -> Result<(), AllocError>
+    ensures { OnOk result (out.new.items ≡ out.old.items ++ spec.group_text index group.now) }
 {
     let shape = group.shape.name();
-    let text = format!(in *out.allocator(); "group {place} {shape}")?;
+    let text = format!(in *out.allocator(); "group {index} {shape}")?;
     out.extend_from_slice(text.as_bytes())?;
     push_each(out, group.keys.as_slice())?;
     out.extend_from_slice(b" :")?;
@@ -280,12 +279,12 @@ pub(crate) fn push_group(out: &mut Vec<u8>, place: u16, group: &GroupDecl) -> Re
 
 // Appends the column of a group.
 #[tactic(auto, unfolding(crate::specs::Text::Written::written_column))]
-fn push_place(out: &mut Vec<u8>, column: GroupColumn) -> Result<(), AllocError>
+fn push_index(out: &mut Vec<u8>, column: GroupColumn) -> Result<(), AllocError>
     ensures { OnOk result (out.new.items ≡ out.old.items ++ spec.written_column column) }
 {
     let text = match column {
-        GroupColumn::Key(place) => format!(in *out.allocator(); " key {place}")?,
-        GroupColumn::Aggregate(place) => format!(in *out.allocator(); " aggregate {place}")?,
+        GroupColumn::Key(index) => format!(in *out.allocator(); " key {index}")?,
+        GroupColumn::Aggregate(index) => format!(in *out.allocator(); " aggregate {index}")?,
     };
     out.extend_from_slice(text.as_bytes())
 }
@@ -296,7 +295,7 @@ pub(crate) fn push_show(out: &mut Vec<u8>, show: &Show) -> Result<(), AllocError
 {
     out.extend_from_slice(b"show ")?;
     out.extend_from_slice(show.name.as_slice())?;
-    push_place(out, show.column)
+    push_index(out, show.column)
 }
 
 #[tactic(auto, unfolding(crate::specs::Text::Written::sort_text))]
@@ -304,7 +303,7 @@ pub(crate) fn push_sort(out: &mut Vec<u8>, key: SortKey) -> Result<(), AllocErro
     ensures { OnOk result (out.new.items ≡ out.old.items ++ spec.sort_text key) }
 {
     out.extend_from_slice(b"sort")?;
-    push_place(out, key.column)?;
+    push_index(out, key.column)?;
     out.push(b' ')?;
     out.extend_from_slice(key.direction.name().as_bytes())
 }

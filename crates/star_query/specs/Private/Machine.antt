@@ -1,13 +1,11 @@
--- A machine that reads one symbol after another. It is no part of the claim: the parser is shown to go with it, and it with the grammar.
+-- A machine that reads one symbol after another. It is no part of the claim: the parser is shown to
+-- go with it, and it with the grammar.
 use Rattle.std.specs.Prelude.{ℕ, ◌+◌, nat_lt, Bool, true, false, ◌||◌, List, [], ◌∷◌, length, Option, Some, None, if◌then◌else◌}
 use Rattle.star_query.specs.declared.token.Keyword.TheVariants as k
 use Rattle.star_query.specs.declared.token.Sign.TheVariants as s
-use Rattle.star_query.specs.declared.{token.Additive.Additive, token.Additive.TheVariants.Minus, token.Fold.Fold, token.Relation.Relation, counts.Part.Part, counts.Counts.Counts, fault.Fault.Fault, fault.Fault.TheVariants.Unexpected, fault.Fault.TheVariants.TooDeep, fault.Fault.TheVariants.TooMany}
+use Rattle.star_query.specs.{declared.token.Additive.Additive, declared.token.Additive.TheVariants.Minus, declared.token.Fold.Fold, declared.token.Relation.Relation, declared.counts.Part.Part, declared.counts.Counts.Counts, declared.fault.Fault.Fault, declared.fault.Fault.TheVariants.{Unexpected, TooDeep, TooMany}, Symbols.{Symbol, keyword, fold, count, relation, sign, additive, name, number, text}, Tree.Name, Grammar.Mark, Maxima.{limit, most_name_bytes, most_nestings}, Private.Phrases.{Several, one, more, Expr, lone_term, plus_or_minus, Term, lone_factor, times, Factor, column, constant, negative, parens, Lit, unsigned_literal, negative_literal, string_literal, Cond, lone_conj, or_conj, Conj, lone_unit, and_unit, Unary, not_unit, group, pair, compare, between, Agg, folded, counted, Item, plain, aggregate, Key, unmarked, ascending, descending, Groups, ungrouped, grouped, Hiding, cube, rollup, hiding, Query, at, first, function}}
 use Rattle.star_query.specs.declared.token.Relation.TheVariants as r
 use Rattle.star_query.specs.declared.counts.Part.TheVariants as part
-use Rattle.star_query.specs.Symbols.{Symbol, keyword, fold, count, relation, sign, additive, name, number, text}
-use Rattle.star_query.specs.{Tree.Name, Grammar.Mark, Maxima.limit, Maxima.most_name_bytes, Maxima.most_nestings}
-use Rattle.star_query.specs.Private.Phrases.{Several, one, more, Expr, lone_term, plus_or_minus, Term, lone_factor, times, Factor, column, constant, negative, parens, Lit, unsigned_literal, negative_literal, string_literal, Cond, lone_conj, or_conj, Conj, lone_unit, and_unit, Unary, not_unit, group, pair, compare, between, Agg, folded, counted, Item, plain, aggregate, Key, unmarked, ascending, descending, Groups, ungrouped, grouped, Hiding, cube, rollup, hiding, Query, at, first, function}
 
 -- one more after these, if there are any
 abbrev pub extended : {A : Type 0} → Option (Several A) → A → Several A
@@ -17,7 +15,7 @@ extended (Some xs) x = more xs x
 -- the part to the left of a phrase that is to come
 mutual
   pub data ExprHole : Type 0 where
-    in_fold : Option (Several Item) → Fold → (place : ℕ) → ExprHole
+    in_fold : Option (Several Item) → Fold → (offset : ℕ) → ExprHole
     in_parens : FactorHole → ExprHole
 
   pub data TermHole : Type 0 where
@@ -66,7 +64,14 @@ grouped_by f g = record { filtered = f; groups = g }
 
 abbrev pub query_of : Grouped → Option (Several Key) → Bool → Query
 query_of g ks end =
-    record { items = g.filtered.items; tables = g.filtered.tables; condition = g.filtered.condition; groups = g.groups; keys = ks; semicolon = end }
+    record {
+      items = g.filtered.items;
+      tables = g.filtered.tables;
+      condition = g.filtered.condition;
+      groups = g.groups;
+      keys = ks;
+      semicolon = end;
+    }
 
 abbrev mutual
   pub expr_depth : ExprHole → ℕ
@@ -104,8 +109,8 @@ lit_depth (high h i l) = unit_depth h
 pub data ParserState : Type 0 where
   begin : ParserState
   item_wanted : Option (Several Item) → ParserState
-  fold_named : Option (Several Item) → Fold → (place : ℕ) → ParserState
-  count_named count_opened count_starred : Option (Several Item) → (place : ℕ) → ParserState
+  fold_named : Option (Several Item) → Fold → (offset : ℕ) → ParserState
+  count_named count_opened count_starred : Option (Several Item) → (offset : ℕ) → ParserState
   factor_wanted factor_negative : FactorHole → ParserState
   term_had : Term → TermHole → ParserState
   agg_had alias_wanted : Option (Several Item) → Agg → ParserState
@@ -135,7 +140,7 @@ abbrev pub to : ParserState → Mark → Option Step
 to next m = Some (record { next = next; at = m })
 
 abbrev pub named : List ℕ → ℕ → Name
-named t p = record { text = t; place = p }
+named t p = record { text = t; offset = p }
 
 abbrev pub give_factor : Factor → FactorHole → ParserState
 give_factor f (first_factor h) = term_had (lone_factor f) h
@@ -218,7 +223,8 @@ on_cond a (in_where is ts) x = on_filtered (filtered_by is ts (Some a)) x
 on_cond a (in_group h) x = closed_cond a h x
 
 abbrev pub on_column : Filtered → Option Hiding → Option (Several Name) → Symbol → Option Step
-on_column f h b (name t p) = to (columns_had f h (extended b (named t p))) (first (part.GroupColumn ∷ []) 0 (name t p))
+on_column f h b (name t p) =
+    to (columns_had f h (extended b (named t p))) (first (part.GroupColumn ∷ []) 0 (name t p))
 on_column f h b x = None
 
 abbrev pub on_keys : Grouped → Several Key → Symbol → Option Step
@@ -228,11 +234,13 @@ on_keys g ks x = on_done g (Some ks) x
 abbrev pub next_step : ParserState → Symbol → Option Step
 next_step begin (keyword k.Select) = to (item_wanted None) (at 0 (keyword k.Select))
 next_step begin x = None
-next_step (item_wanted b) (name t p) = to (items_had (extended b (plain (named t p)))) (first (part.Item ∷ []) 0 (name t p))
+next_step (item_wanted b) (name t p) =
+    to (items_had (extended b (plain (named t p)))) (first (part.Item ∷ []) 0 (name t p))
 next_step (item_wanted b) (fold f p) = to (fold_named b f p) (function (fold f p))
 next_step (item_wanted b) (count p) = to (count_named b p) (function (count p))
 next_step (item_wanted b) x = None
-next_step (fold_named b f p) (sign s.Open) = to (factor_wanted (first_factor (first_term (in_fold b f p)))) (at 0 (sign s.Open))
+next_step (fold_named b f p) (sign s.Open) =
+    to (factor_wanted (first_factor (first_term (in_fold b f p)))) (at 0 (sign s.Open))
 next_step (fold_named b f p) x = None
 next_step (count_named b p) (sign s.Open) = to (count_opened b p) (at 0 (sign s.Open))
 next_step (count_named b p) x = None
@@ -240,43 +248,66 @@ next_step (count_opened b p) (sign s.Star) = to (count_starred b p) (at 0 (sign 
 next_step (count_opened b p) x = None
 next_step (count_starred b p) (sign s.Close) = to (agg_had b (counted p)) (at 0 (sign s.Close))
 next_step (count_starred b p) x = None
-next_step (factor_wanted h) (name t p) = to (give_factor (column (named t p)) h) (first (part.Operand ∷ []) (factor_depth h) (name t p))
-next_step (factor_wanted h) (number n) = to (give_factor (constant n) h) (first (part.Operand ∷ []) (factor_depth h) (number n))
-next_step (factor_wanted h) (additive Minus) = to (factor_negative h) (at (factor_depth h) (additive Minus))
-next_step (factor_wanted h) (sign s.Open) = to (factor_wanted (first_factor (first_term (in_parens h)))) (at (factor_depth h + 1) (sign s.Open))
+next_step (factor_wanted h) (name t p) =
+    to (give_factor (column (named t p)) h) (first (part.Operand ∷ []) (factor_depth h) (name t p))
+next_step (factor_wanted h) (number n) =
+    to (give_factor (constant n) h) (first (part.Operand ∷ []) (factor_depth h) (number n))
+next_step (factor_wanted h) (additive Minus) =
+    to (factor_negative h) (at (factor_depth h) (additive Minus))
+next_step (factor_wanted h) (sign s.Open) =
+    to (factor_wanted (first_factor (first_term (in_parens h))))
+    (at (factor_depth h + 1) (sign s.Open))
 next_step (factor_wanted h) x = None
-next_step (factor_negative h) (number n) = to (give_factor (negative n) h) (first (part.Operand ∷ []) (factor_depth h) (number n))
+next_step (factor_negative h) (number n) =
+    to (give_factor (negative n) h) (first (part.Operand ∷ []) (factor_depth h) (number n))
 next_step (factor_negative h) x = None
-next_step (term_had t h) (sign s.Star) = to (factor_wanted (next_factor t h)) (at (term_depth h) (sign s.Star))
-next_step (term_had t h) (additive q) = to (factor_wanted (first_factor (next_term (joined_expr t h) q (around_term h)))) (at (term_depth h) (additive q))
+next_step (term_had t h) (sign s.Star) =
+    to (factor_wanted (next_factor t h)) (at (term_depth h) (sign s.Star))
+next_step (term_had t h) (additive q) =
+    to (factor_wanted (first_factor (next_term (joined_expr t h) q (around_term h))))
+    (at (term_depth h) (additive q))
 next_step (term_had t h) (sign s.Close) = closed_expr (joined_expr t h) (around_term h)
 next_step (term_had t h) x = None
 next_step (agg_had b a) (keyword k.As) = to (alias_wanted b a) (at 0 (keyword k.As))
 next_step (agg_had b a) x = on_items (extended b (aggregate a None)) x
-next_step (alias_wanted b a) (name t p) = to (items_had (extended b (aggregate a (Some (named t p))))) (at 0 (name t p))
+next_step (alias_wanted b a) (name t p) =
+    to (items_had (extended b (aggregate a (Some (named t p))))) (at 0 (name t p))
 next_step (alias_wanted b a) x = None
 next_step (items_had is) x = on_items is x
-next_step (table_wanted is b) (name t p) = to (tables_had is (extended b (named t p))) (at 0 (name t p))
+next_step (table_wanted is b) (name t p) =
+    to (tables_had is (extended b (named t p))) (at 0 (name t p))
 next_step (table_wanted is b) x = None
 next_step (tables_had is ts) (sign s.Comma) = to (table_wanted is (Some ts)) (at 0 (sign s.Comma))
-next_step (tables_had is ts) (keyword k.Where) = to (unit_wanted (first_unit (first_conj (in_where is ts)))) (at 0 (keyword k.Where))
+next_step (tables_had is ts) (keyword k.Where) =
+    to (unit_wanted (first_unit (first_conj (in_where is ts)))) (at 0 (keyword k.Where))
 next_step (tables_had is ts) x = on_filtered (filtered_by is ts None) x
-next_step (unit_wanted h) (name t p) = to (unit_named h (named t p)) (first (part.Comparison ∷ []) (unit_depth h) (name t p))
-next_step (unit_wanted h) (keyword k.Not) = to (unit_wanted (under_not h)) (first (part.Comparison ∷ []) (unit_depth h + 1) (keyword k.Not))
-next_step (unit_wanted h) (sign s.Open) = to (unit_wanted (first_unit (first_conj (in_group h)))) (at (unit_depth h + 1) (sign s.Open))
+next_step (unit_wanted h) (name t p) =
+    to (unit_named h (named t p)) (first (part.Comparison ∷ []) (unit_depth h) (name t p))
+next_step (unit_wanted h) (keyword k.Not) =
+    to (unit_wanted (under_not h)) (first (part.Comparison ∷ []) (unit_depth h + 1) (keyword k.Not))
+next_step (unit_wanted h) (sign s.Open) =
+    to (unit_wanted (first_unit (first_conj (in_group h)))) (at (unit_depth h + 1) (sign s.Open))
 next_step (unit_wanted h) x = None
-next_step (unit_named h i) (relation q) = to (behind_relation h i q) (at (unit_depth h) (relation q))
-next_step (unit_named h i) (keyword k.Between) = to (lit_wanted (low h i)) (at (unit_depth h) (keyword k.Between))
+next_step (unit_named h i) (relation q) =
+    to (behind_relation h i q) (at (unit_depth h) (relation q))
+next_step (unit_named h i) (keyword k.Between) =
+    to (lit_wanted (low h i)) (at (unit_depth h) (keyword k.Between))
 next_step (unit_named h i) x = None
-next_step (equal_had h i) (name t p) = to (give_unit (pair i (named t p)) h) (at (unit_depth h) (name t p))
+next_step (equal_had h i) (name t p) =
+    to (give_unit (pair i (named t p)) h) (at (unit_depth h) (name t p))
 next_step (equal_had h i) x = on_lit (compared h i r.Equal) x
 next_step (lit_wanted h) x = on_lit h x
-next_step (lit_negative h) (number n) = to (give_lit (negative_literal n) h) (at (lit_depth h) (number n))
+next_step (lit_negative h) (number n) =
+    to (give_lit (negative_literal n) h) (at (lit_depth h) (number n))
 next_step (lit_negative h) x = None
-next_step (low_had h i l) (keyword k.And) = to (lit_wanted (high h i l)) (at (unit_depth h) (keyword k.And))
+next_step (low_had h i l) (keyword k.And) =
+    to (lit_wanted (high h i l)) (at (unit_depth h) (keyword k.And))
 next_step (low_had h i l) x = None
-next_step (conj_had c h) (keyword k.And) = to (unit_wanted (next_unit c h)) (at (conj_depth h) (keyword k.And))
-next_step (conj_had c h) (keyword k.Or) = to (unit_wanted (first_unit (next_conj (joined_cond c h) (around_conj h)))) (at (conj_depth h) (keyword k.Or))
+next_step (conj_had c h) (keyword k.And) =
+    to (unit_wanted (next_unit c h)) (at (conj_depth h) (keyword k.And))
+next_step (conj_had c h) (keyword k.Or) =
+    to (unit_wanted (first_unit (next_conj (joined_cond c h) (around_conj h))))
+    (at (conj_depth h) (keyword k.Or))
 next_step (conj_had c h) x = on_cond (joined_cond c h) (around_conj h) x
 next_step (filtered_had f) x = on_filtered f x
 next_step (group_had f) (keyword k.By) = to (by_had f) (at 0 (keyword k.By))
@@ -287,17 +318,22 @@ next_step (by_had f) x = on_column f None None x
 next_step (hiding_had f h) (sign s.Open) = to (column_wanted f (Some h) None) (at 0 (sign s.Open))
 next_step (hiding_had f h) x = None
 next_step (column_wanted f h b) x = on_column f h b x
-next_step (columns_had f h is) (sign s.Comma) = to (column_wanted f h (Some is)) (at 0 (sign s.Comma))
-next_step (columns_had f (Some h) is) (sign s.Close) = to (grouped_had (grouped_by f (hiding h is))) (at 0 (sign s.Close))
+next_step (columns_had f h is) (sign s.Comma) =
+    to (column_wanted f h (Some is)) (at 0 (sign s.Comma))
+next_step (columns_had f (Some h) is) (sign s.Close) =
+    to (grouped_had (grouped_by f (hiding h is))) (at 0 (sign s.Close))
 next_step (columns_had f (Some h) is) x = None
 next_step (columns_had f None is) x = on_grouped (grouped_by f (grouped is)) x
 next_step (grouped_had g) x = on_grouped g x
 next_step (order_had g) (keyword k.By) = to (key_wanted g None) (at 0 (keyword k.By))
 next_step (order_had g) x = None
-next_step (key_wanted g b) (name t p) = to (key_named g b (named t p)) (first (part.SortKey ∷ []) 0 (name t p))
+next_step (key_wanted g b) (name t p) =
+    to (key_named g b (named t p)) (first (part.SortKey ∷ []) 0 (name t p))
 next_step (key_wanted g b) x = None
-next_step (key_named g b i) (keyword k.Asc) = to (keys_had g (extended b (ascending i))) (at 0 (keyword k.Asc))
-next_step (key_named g b i) (keyword k.Desc) = to (keys_had g (extended b (descending i))) (at 0 (keyword k.Desc))
+next_step (key_named g b i) (keyword k.Asc) =
+    to (keys_had g (extended b (ascending i))) (at 0 (keyword k.Asc))
+next_step (key_named g b i) (keyword k.Desc) =
+    to (keys_had g (extended b (descending i))) (at 0 (keyword k.Desc))
 next_step (key_named g b i) x = on_keys g (extended b (unmarked i)) x
 next_step (keys_had g ks) x = on_keys g ks x
 next_step (done g ks) x = on_done g ks x
@@ -305,11 +341,13 @@ next_step (ended g ks) x = None
 
 -- the query that was read, if one may end here
 abbrev pub cond_end : Cond → CondHole → Option Query
-cond_end a (in_where is ts) = Some (query_of (grouped_by (filtered_by is ts (Some a)) ungrouped) None false)
+cond_end a (in_where is ts) =
+    Some (query_of (grouped_by (filtered_by is ts (Some a)) ungrouped) None false)
 cond_end a (in_group h) = None
 
 abbrev pub query_at_end : ParserState → Option Query
-query_at_end (tables_had is ts) = Some (query_of (grouped_by (filtered_by is ts None) ungrouped) None false)
+query_at_end (tables_had is ts) =
+    Some (query_of (grouped_by (filtered_by is ts None) ungrouped) None false)
 query_at_end (conj_had c h) = cond_end (joined_cond c h) (around_conj h)
 query_at_end (filtered_had f) = Some (query_of (grouped_by f ungrouped) None false)
 query_at_end (columns_had f None is) = Some (query_of (grouped_by f (grouped is)) None false)
@@ -362,7 +400,8 @@ checked n m left go =
     then Bad TooMany left
     else go (plus n m.parts)
 
-abbrev pub verdict_after : Option Step → Counts → List Symbol → (ParserState → Counts → Verdict) → Verdict
+abbrev pub verdict_after : Option Step → Counts → List Symbol → (ParserState → Counts → Verdict)
+    → Verdict
 verdict_after None n left go = Bad Unexpected left
 verdict_after (Some x) n left go = checked n x.at left (go x.next)
 
@@ -375,4 +414,11 @@ run [] at n = ends (query_at_end at)
 run (x ∷ xs) at n = verdict_after (next_step at x) n (x ∷ xs) (run xs)
 
 abbrev pub nothing_counted : Counts
-nothing_counted = record { items = 0; aggregates = 0; columns = 0; keys = 0; comparisons = 0; operands = 0 }
+nothing_counted = record {
+  items = 0;
+  aggregates = 0;
+  columns = 0;
+  keys = 0;
+  comparisons = 0;
+  operands = 0;
+}

@@ -1,8 +1,7 @@
 -- The first fault of tokens.
 use Rattle.std.specs.Prelude.{◌≡◌, ℕ, List, ◌++◌, Result, Ok, Err}
-use Rattle.star_query.specs.declared.{tree.Tree.Tree, fault.Fault.Fault, fault.Fault.TheVariants.Unexpected, fault.Fault.TheVariants.TooDeep, fault.Fault.TheVariants.TooMany, fault.ParseError.ParseError, fault.QueryFault.QueryFault}
+use Rattle.star_query.specs.{declared.tree.Tree.Tree, declared.fault.Fault.Fault, declared.fault.Fault.TheVariants.{Unexpected, TooDeep, TooMany}, declared.fault.ParseError.ParseError, declared.fault.QueryFault.QueryFault, Views.tree_view, Symbols.{Placed, symbols}, Derives.{FirstQueryFault, first_offset}}
 use Rattle.star_query.specs.Tree as spec
-use Rattle.star_query.specs.{Views.tree_view, Symbols.Placed, Symbols.symbols, Derives.FirstQueryFault, Derives.first_place}
 use Rattle.star_query.specs.declared.fault.ParseError.TheVariants as errors
 use Rattle.star_query.specs.declared.fault.QueryFault.TheVariants as faults
 
@@ -15,20 +14,21 @@ pub record TokensStopAt (tokens : List Placed) (fault : Fault) (left : List Plac
 -- the fault of tokens whose text has this length; out of memory may come before it
 abbrev pub IsTokenFault : List Placed → ℕ → QueryFault → Type 0
 IsTokenFault tokens end faults.OutOfMemory = Unit {0}
-IsTokenFault tokens end (faults.Unexpected place) = (left : List Placed) × TokensStopAt tokens Unexpected left × (place ≡ first_place left end)
+IsTokenFault tokens end (faults.Unexpected offset) = (left : List Placed)
+    × TokensStopAt tokens Unexpected left × (offset ≡ first_offset left end)
 IsTokenFault tokens end faults.TooDeep = (left : List Placed) × TokensStopAt tokens TooDeep left
 IsTokenFault tokens end faults.TooMany = (left : List Placed) × TokensStopAt tokens TooMany left
 IsTokenFault tokens end _ = ⊥
 
--- a fault, with its place if it has one
+-- a fault, with its position if it has one
 abbrev pub refusal_of : Fault → ℕ → QueryFault
-refusal_of Unexpected place = faults.Unexpected place
-refusal_of TooDeep place = faults.TooDeep
-refusal_of TooMany place = faults.TooMany
+refusal_of Unexpected offset = faults.Unexpected offset
+refusal_of TooDeep offset = faults.TooDeep
+refusal_of TooMany offset = faults.TooMany
 
 abbrev pub query_fault : ParseError → ℕ → QueryFault
-query_fault errors.OutOfMemory place = faults.OutOfMemory
-query_fault (errors.Fault f) place = refusal_of f place
+query_fault errors.OutOfMemory offset = faults.OutOfMemory
+query_fault (errors.Fault f) offset = refusal_of f offset
 
 -- the answer is this tree, unless memory ran out
 abbrev pub IsTreeRead : spec.Tree → Result Tree QueryFault → Type 0

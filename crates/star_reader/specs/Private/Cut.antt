@@ -1,6 +1,5 @@
 -- The cut of a piece of a text: at its first line end and after its last.
-use Rattle.std.specs.Prelude.{◌≡◌, ◌++◌, ◌∷◌, ◌<◌, ◌≤◌, ◌-◌, true, ℕ, List, [], drop, length, take}
-use Rattle.std.specs.List.{list_all}
+use Rattle.std.specs.{Prelude.{◌≡◌, ◌++◌, ◌∷◌, ◌<◌, ◌≤◌, ◌-◌, true, ℕ, List, [], drop, length, take}, List.list_all}
 use Rattle.star_schema.specs.Records.{ends_line}
 use Rattle.star_reader.specs.Carried.{is_inner}
 

@@ -1,8 +1,6 @@
 -- What a reader of a table file has left, in records.
-use Rattle.std.specs.Prelude.{◌≡◌, ◌++◌, ℕ, List, [], Bool, false, Some, filter}
-use Rattle.std.specs.{Bool.MatchBool, Borrow.Bor}
-use Rattle.csv.specs.Reading.{Ready, default_config, reader_config, reader_state, reader_trim, source_of}
-use Rattle.csv.specs.{declared.parser.Config.Config, declared.reader.Reader.Reader}
+use Rattle.std.specs.{Prelude.{◌≡◌, ◌++◌, ℕ, List, [], Bool, false, Some, filter}, Bool.MatchBool, Borrow.Bor}
+use Rattle.csv.specs.{Reading.{Ready, default_config, reader_config, reader_state, reader_trim, source_of}, declared.parser.Config.Config, declared.reader.Reader.Reader}
 use Rattle.star_schema.specs.Records.{is_filled, records_of}
 use Rattle.csv.specs.declared.parser.State.TheVariants as st
 use Rattle.csv.specs.declared.parser.Terminator.TheVariants as term

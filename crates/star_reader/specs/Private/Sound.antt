@@ -15,7 +15,6 @@ reading_of kept =
 -- while there is no fault, it is partway through some text; it never has more than 17 columns
 pub record IsSoundReader (kept : Inside) : Type 0 where
   pub few : length kept.columns.items ≤ 17
-  pub partway : MatchOption kept.fault
-      ((parts : List (List ℕ)) × (text : List ℕ)
+  pub partway : MatchOption kept.fault ((parts : List (List ℕ)) × (text : List ℕ)
       × IsPartway kept.table kept.most parts text kept.progress kept.columns.items)
       (λ fault. Unit {0})

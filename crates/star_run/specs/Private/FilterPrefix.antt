@@ -1,7 +1,7 @@
--- The pushed-down filters of a body: the keeps among its first instructions, as long as these only write registers. A turn ends early if the flag of one of them is false.
+-- The pushed-down filters of a body: the keeps among its first instructions, as long as these only
+-- write registers. A turn ends early if the flag of one of them is false.
 use Rattle.std.specs.Prelude.{ℕ, zero, suc, ◌+◌, Bool, true, false, ◌&&◌, Option, Some, None, if◌then◌else◌}
-use Rattle.star_program.specs.{declared.op.Op.Op, declared.op.Op.TheVariants.Assign, declared.op.Op.TheVariants.Keep, declared.op.Operation.Operation, declared.op.Operation.TheVariants.Find, declared.op.Operation.TheVariants.Read, declared.program.Parts.Parts, Code.Code, Code.Then}
-use Rattle.star_program.specs.{Effects.State, Effects.empty_state, Effects.next_registers, Values.Registers, Values.flag_read, World.World}
+use Rattle.star_program.specs.{declared.op.Op.Op, declared.op.Op.TheVariants.{Assign, Keep}, declared.op.Operation.Operation, declared.op.Operation.TheVariants.{Find, Read}, declared.program.Parts.Parts, Code.{Code, Then}, Effects.{State, empty_state, next_registers}, Values.{Registers, flag_read}, World.World}
 
 -- ---- a turn
 
@@ -23,7 +23,8 @@ early w parts (suc n) (Then (Keep f) rest) looked regs =
     if flag_read (regs f) then early w parts n rest looked regs else Some looked
 early w parts (suc n) (Then (Assign t o) rest) looked regs =
     if reads_no_total o
-    then early w parts n rest (looked + looks o) (next_registers w parts regs empty_state (Assign t o))
+    then early w parts n rest (looked + looks o)
+    (next_registers w parts regs empty_state (Assign t o))
     else None
 early w parts (suc n) _ looked regs = None
 

@@ -1,8 +1,7 @@
 -- The steps of a report that is kept and printed.
 use Rattle.std.specs.Prelude.{◌≡◌, ◌⊎◌, ℕ, List, Bool, false, Result, Ok, Err}
 use Rattle.star_engine.specs.{declared.fault.EngineFault.EngineFault, Answered.Change, Answered.HasGained, Answered.HasGainedPart, Answered.IsUntouched, WithNotes.RunText}
-use Rattle.star_service.specs.{ReportSinks.HasFailedAt, ReportSinks.HasStored, ReportSinks.HasStoredNone, ReportSinks.SinkChange, Reports.refused_line, Reports.run_line, declared.reports.Halt.Halt, declared.reports.Halt.TheVariants.OutOfMemory, declared.reports.Halt.TheVariants.Unstored}
-use Rattle.star_service.specs.{declared.reports.Halt.TheVariants.Unwritten}
+use Rattle.star_service.specs.{ReportSinks.{HasFailedAt, HasStored, HasStoredNone, SinkChange}, Reports.{refused_line, run_line}, declared.reports.Halt.Halt, declared.reports.Halt.TheVariants.{OutOfMemory, Unstored, Unwritten}}
 
 -- a line was written, or its first bytes
 abbrev pub IsLineWritten : {S : Type 0} → Change S → List ℕ → Result (Unit {0}) Halt → Type 0

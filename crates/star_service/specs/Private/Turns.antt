@@ -5,7 +5,8 @@ use Rattle.star_statements.specs.{Sources.IsPastCounting, Sources.IsStatementRea
 use Rattle.star_service.specs.{Lines.IsTextPrinted, Sessions.IsRound, Sessions.prompt_of, declared.sessions.Stop.Stop, declared.sessions.Stop.TheVariants.Unread, declared.sessions.Stop.TheVariants.Unwritten}
 
 -- a statement was read, and answered
-pub record IsStatementAnswered {S E : Type 0} (loaded : Loaded) (is_terminal : Bool) (old new : Option (List ℕ))
+pub record IsStatementAnswered {S E : Type 0} (loaded : Loaded) (is_terminal : Bool)
+    (old new : Option (List ℕ))
     (out : Change S) (err : Change E) (is_ended goes_on : Bool) : Type 0 where
   pub kept : List ℕ
   pub statement : List ℕ

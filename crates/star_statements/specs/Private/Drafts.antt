@@ -1,6 +1,5 @@
 -- A statement that is being read.
-use Rattle.std.specs.Prelude.{◌≡◌, ◌==◌, ◌&&◌, ◌||◌, ◌++◌, ℕ, List, [], ◌∷◌, Bool, true, false, Option, if◌then◌else◌, length, nat_lt, take}
-use Rattle.std.specs.{Io.KnownBytes.Consumes}
+use Rattle.std.specs.{Prelude.{◌≡◌, ◌==◌, ◌&&◌, ◌||◌, ◌++◌, ℕ, List, [], ◌∷◌, Bool, true, false, Option, if◌then◌else◌, length, nat_lt, take}, Io.KnownBytes.Consumes}
 use Rattle.star_statements.specs.{Blanks.without_blanks, Statements.joined_to_first, Statements.statements_of}
 use Rattle.star_common.specs.WhiteSpace.{is_blank}
 
@@ -41,4 +40,5 @@ pub record IsDraft (old new : Option (List ℕ)) (text : List ℕ) (ends : Bool)
     (begun : List ℕ) : Type 0 where
   pub read : Consumes old new begun
   pub keeps : text ≡ kept begun
-  pub splits : (rest : List ℕ) → statements_of (begun ++ rest) ≡ joined_to_first begun (cut_statements ends rest)
+  pub splits : (rest : List ℕ)
+      → statements_of (begun ++ rest) ≡ joined_to_first begun (cut_statements ends rest)

@@ -1,8 +1,7 @@
 -- What one instruction did.
 use Rattle.std.specs.Prelude.{◌≡◌, ◌≤◌, ◌<◌, ◌+◌, ◌^◌, ℕ, List, Option, length, Result, MatchResult, OnOk}
 use Rattle.star_schema.specs.Database.{Database}
-use Rattle.star_program.specs.Effects.{State, Effect, GoesOn, EndsTurn, Traps}
-use Rattle.star_program.specs.{declared.program.Parts.Parts, Values.Registers, Values.with_entry, declared.op.Op.Op, declared.op.Operation.Operation, declared.value.Value.Value, Private.Doing.assigns, Private.Doing.does}
+use Rattle.star_program.specs.{Effects.{State, Effect, GoesOn, EndsTurn, Traps}, declared.program.Parts.Parts, Values.{Registers, with_entry}, declared.op.Op.Op, declared.op.Operation.Operation, declared.value.Value.Value, Private.Doing.{assigns, does}}
 use Rattle.star_outcome.specs.{declared.flow.Flow.Flow, Sound.AreSound, Sound.IsSoundValue}
 use Rattle.star_trial.specs.{declared.fault.Stop.Stop, declared.machine.Machine.Machine, Private.Runs.HasDone, Private.Runs.Run, Private.Views.registers_view}
 use Rattle.star_world.specs.WorldOf.{world_of}
@@ -38,7 +37,8 @@ IsActStopped effect stop.OutOfMemory = Unit {0}
 IsActStopped effect (stop.Trap kind) = effect ≡ Traps kind
 
 -- the result of an operation with this effect
-abbrev pub IsValueMade : Database → Parts → Registers → Run → ℕ → Effect → Result Value Stop → Type 0
+abbrev pub IsValueMade : Database → Parts → Registers → Run → ℕ → Effect → Result Value Stop
+    → Type 0
 IsValueMade database parts registers run target effect result =
     MatchResult result (Sets database parts registers run target effect) (IsActStopped effect)
 
@@ -68,7 +68,8 @@ abbrev pub Makes : Machine → List (Option Value) → Run → Run → Operation
 Makes m registers old new operation result =
     (s : State) (target : ℕ) → HasDone m.catalogue.now m.parts.now old s
     → IsValueMade m.catalogue.now m.parts.now (registers_view registers) new target
-    (assigns (world_of m.catalogue.now) m.parts.now (registers_view registers) s target operation) result
+    (assigns (world_of m.catalogue.now) m.parts.now
+    (registers_view registers) s target operation) result
 
 -- what an instruction does in which nothing is wrong
 abbrev pub does_op : Machine → Op → Registers → State → Effect
@@ -78,8 +79,8 @@ does_op m op registers s = does (world_of m.catalogue.now) m.parts.now registers
 pub record HasActed (m : Machine) (registers new_registers : List (Option Value)) (run new : Run)
     (meant : Registers → State → Effect) (result : Result Flow Stop) : Type 0 where
   pub does : (s : State) → HasDone m.catalogue.now m.parts.now run s
-      → IsActed m.catalogue.now m.parts.now (registers_view new_registers) new (meant (registers_view registers) s)
-      result
+      → IsActed m.catalogue.now m.parts.now (registers_view new_registers) new
+      (meant (registers_view registers) s) result
   pub sound : OnOk result (AreSound m.catalogue.now (registers_view new_registers))
   pub len : length new_registers ≡ length registers
   pub work : HasWorkedOnce run new

@@ -12,6 +12,7 @@ HasPut stores new g update result =
     (parts : Parts) (updates_of : ℕ → List Update) → AreStores parts stores updates_of
     → MatchResult result
     (λ _. AreStores parts new (with_update updates_of g update)
-    × (overflows (group_at parts g).shape (group_at parts g).aggregates (updates_of g) update ≡ false))
+    × (overflows (group_at parts g).shape (group_at parts g).aggregates (updates_of g) update
+    ≡ false))
     (λ fault. UnlessMemory OutOfMemory fault
     (overflows (group_at parts g).shape (group_at parts g).aggregates (updates_of g) update ≡ true))

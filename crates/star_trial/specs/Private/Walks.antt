@@ -1,8 +1,7 @@
 -- How a walk ends, in the words of the definitions.
 use Rattle.std.specs.Prelude.{◌≡◌, ◌≤◌, ◌+◌, ◌*◌, ℕ, Bool, true, List, Option, length, nat_lt, Result, MatchResult}
 use Rattle.star_schema.specs.Database.{Database, rows_in}
-use Rattle.star_program.specs.Run.{End, Ended, begin, meaning, scans, turns}
-use Rattle.star_program.specs.{declared.program.Parts.Parts, Code.Code, Effects.State, Values.Registers, Values.with_entry, declared.value.Value.TheVariants.Row, declared.value.Value.Value}
+use Rattle.star_program.specs.{Run.{End, Ended, begin, meaning, scans, turns}, declared.program.Parts.Parts, Code.Code, Effects.State, Values.{Registers, with_entry}, declared.value.Value.TheVariants.Row, declared.value.Value.Value}
 use Rattle.star_trial.specs.{declared.fault.Stop.Stop, declared.fault.TrialFault.TrialFault, declared.machine.Machine.Machine, declared.machine.Scanned.Scanned, Private.Runs.HasDone, Private.Runs.Run, Private.Views.registers_view, Trials.IsFaultOfEnd}
 use Rattle.star_outcome.specs.Sound.{AreSound}
 use Rattle.star_world.specs.WorldOf.{world_of}

@@ -1,12 +1,10 @@
 -- The result of the check of an instruction, and the state for the next.
-use Rattle.std.specs.Prelude.{◌≡◌, ◌*◌, ◌+◌, ◌≤◌, ◌^◌, ℕ, Bool, length, Option, Some, None, Result, MatchResult}
-use Rattle.std.specs.{Option.option_or}
+use Rattle.std.specs.{Prelude.{◌≡◌, ◌*◌, ◌+◌, ◌≤◌, ◌^◌, ℕ, Bool, length, Option, Some, None, Result, MatchResult}, Option.option_or}
 use Rattle.star_common.specs.Memory.{UnlessMemory}
 use Rattle.star_schema.specs.declared.table.TableId.{TableId}
 use Rattle.star_program.specs.{declared.program.Parts.Parts, Code.Code, World.World}
-use Rattle.star_safety.specs.{Contexts.Context, Contexts.at_end, Contexts.at_first, Contexts.in_scan, Admissible.first_refusal, Private.Forward.first_reason, Quote.quote, declared.reason.Reason.Reason, Refusals.scan_reason, Standing.at_place}
-use Rattle.star_verify.specs.Private.Kept.{AreMarked, AreTalliesFew, HasKeyShares, HasShares, flag_at}
-use Rattle.star_verify.specs.{declared.check.Accepted.Accepted, declared.instructions.VerifierState.VerifierState, declared.instructions.Position.Position, declared.refusal.Refusal.Refusal, declared.input.CheckInput.CheckInput, Facts.AreFacts, Private.Views.known_in, Views.refusal_view}
+use Rattle.star_safety.specs.{Contexts.Context, Contexts.at_end, Contexts.at_first, Contexts.in_scan, Admissible.first_refusal, Private.Forward.first_reason, Quote.quote, declared.reason.Reason.Reason, Refusals.scan_reason, Standing.at_position}
+use Rattle.star_verify.specs.{Private.Kept.{AreMarked, AreTalliesFew, HasKeyShares, HasShares, flag_at}, declared.check.Accepted.Accepted, declared.instructions.VerifierState.VerifierState, declared.instructions.Position.Position, declared.refusal.Refusal.Refusal, declared.input.CheckInput.CheckInput, Facts.AreFacts, Private.Views.known_in, Views.refusal_view}
 use Rattle.star_verify.specs.declared.refusal.Refusal.TheVariants as told
 
 -- this reason at this instruction, or out of memory
@@ -63,7 +61,7 @@ InEachContext input position state Holds =
 abbrev pub HasReason : Result (Unit {0}) Refusal → ℕ → Option Reason → Type 0 → Type 0
 HasReason result at reason Kept =
     MatchResult result (λ _. (reason ≡ None) × Kept)
-    (λ refusal. IsFirst refusal (at_place at reason))
+    (λ refusal. IsFirst refusal (at_position at reason))
 
 -- Ok if nothing refuses some code, with the state then, otherwise the first refusal
 abbrev pub AreStepsChecked : Result ℕ Refusal → Option (ℕ × Reason) → Type 0 → Type 0
@@ -74,7 +72,7 @@ AreStepsChecked result first Kept =
 abbrev pub scan_first : World → Parts → (ℕ → Bool) → Context → ℕ → TableId → ℕ → Code
     → Option (ℕ × Reason)
 scan_first w parts pending x at table r body =
-    option_or (at_place at (scan_reason parts x r))
+    option_or (at_position at (scan_reason parts x r))
     (first_reason w parts pending (in_scan w x table r) (at + 1) body)
 
 -- ---- a whole program

@@ -1,6 +1,5 @@
 -- The rows of a report, by grouping, while its keys are shown or hidden one after another.
-use Rattle.std.specs.Prelude.{◌≡◌, ◌⊎◌, ◌≤◌, ◌+◌, ◌*◌, ◌-◌, ◌^◌, ℕ, zero, suc, Bool, true, false, ◌&&◌, not, nat_le, List, ◌∷◌, filter, Option, None, if◌then◌else◌}
-use Rattle.std.specs.{List.list_all, List.sum_by, Option.is_none}
+use Rattle.std.specs.{Prelude.{◌≡◌, ◌⊎◌, ◌≤◌, ◌+◌, ◌*◌, ◌-◌, ◌^◌, ℕ, zero, suc, Bool, true, false, ◌&&◌, not, nat_le, List, ◌∷◌, filter, Option, None, if◌then◌else◌}, List.{list_all, sum_by}, Option.is_none}
 use Rattle.star_schema.specs.{declared.group.Shape.Shape, declared.group.Shape.TheVariants.Plain, declared.group.Shape.TheVariants.Cube, Groups.is_grouping}
 use Rattle.star_program.specs.Puts.{masks}
 use Rattle.star_safety.specs.MostRows.{lists_of}
@@ -42,7 +41,8 @@ rows_of_rest updates has_shown lists counts =
 -- the rows of all groupings
 abbrev pub rows_behind : ℕ → Shape → Bool → Bool → ℕ → List ℕ → ℕ
 rows_behind updates s has_shown has_hidden lists counts =
-    sum_by (rows_of_rest updates has_shown lists) (filter (grouping_goes_on s has_hidden) (masks counts))
+    sum_by (rows_of_rest updates has_shown lists)
+    (filter (grouping_goes_on s has_hidden) (masks counts))
 
 -- the maximum number of groupings of a number of keys
 unfoldable pub groupings : ℕ → ℕ

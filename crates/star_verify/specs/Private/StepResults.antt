@@ -2,18 +2,15 @@
 use Rattle.std.specs.Prelude.{◌≡◌, ◌+◌, ◌≤◌, ◌^◌, ℕ, Bool, List, Option}
 use Rattle.star_schema.specs.Sizes.{size_of}
 use Rattle.star_program.specs.{declared.body.Step.Step, declared.body.Step.TheVariants.Act, declared.body.Step.TheVariants.Scan, declared.program.Parts.Parts, Code.Code, Code.Each, Code.code_size, CodeOfSteps.code_of_steps, World.World}
-use Rattle.star_safety.specs.Contexts.{Context, after_op, after_scan, at_end, in_scan}
-use Rattle.star_safety.specs.{Private.Forward.first_reason, Private.Forward.open_with, Quote.turns_met, declared.reason.Reason.Reason, Refusals.op_reason, Standing.at_place}
-use Rattle.star_verify.specs.Private.CheckResults.{InEachContext, IsPositionOf, IsReady, KeepsContext, scan_first}
-use Rattle.star_verify.specs.{declared.instructions.VerifierState.VerifierState, declared.instructions.Position.Position, declared.input.CheckInput.CheckInput}
+use Rattle.star_safety.specs.{Contexts.{Context, after_op, after_scan, at_end, in_scan}, Private.Forward.{first_reason, open_with}, Quote.turns_met, declared.reason.Reason.Reason, Refusals.op_reason, Standing.at_position}
+use Rattle.star_verify.specs.{Private.CheckResults.{InEachContext, IsPositionOf, IsReady, KeepsContext, scan_first}, declared.instructions.VerifierState.VerifierState, declared.instructions.Position.Position, declared.input.CheckInput.CheckInput}
 
 -- ---- a step
 
 -- its first refusal, or that of its body, if such code follows
-abbrev pub step_first : World → Parts → (ℕ → Bool) → Context → ℕ → Step → Code
-    → Option (ℕ × Reason)
+abbrev pub step_first : World → Parts → (ℕ → Bool) → Context → ℕ → Step → Code → Option (ℕ × Reason)
 step_first w parts pending x at (Act op) rest =
-    at_place at (op_reason w parts (open_with pending rest) x op)
+    at_position at (op_reason w parts (open_with pending rest) x op)
 step_first w parts pending x at (Scan table r body) rest =
     scan_first w parts (open_with pending (Each table r body rest)) x at table r body
 
@@ -43,15 +40,16 @@ pub record GivenSteps : Type 0 where
   pub steps : List Step
 
 -- these steps remain, from the instruction with this number on, with the state there
-pub record AreRemainingSteps (given : GivenSteps) (state : VerifierState) (at : ℕ) (left : List Step) : Type 0 where
+pub record AreRemainingSteps (given : GivenSteps) (state : VerifierState) (at : ℕ)
+    (left : List Step) : Type 0 where
   pub past : given.position.at ≤ at
   pub size : at + code_size (code_of_steps left)
       ≡ given.position.at + code_size (code_of_steps given.steps)
-  pub turns : turns_met (size_of given.input.facts.now.sizes) given.position.met (code_of_steps left)
-      ≤ 10 ^ 15
+  pub turns : turns_met (size_of given.input.facts.now.sizes) given.position.met
+      (code_of_steps left) ≤ 10 ^ 15
   pub ready : IsReady given.input.parts.now (record given.position { at = at }) state
-  pub kept : InEachContext given.input given.position given.state (λ w x pending.
-      (there : Context) × KeepsContext given.input.parts.now state there
+  pub kept : InEachContext given.input given.position given.state
+      (λ w x pending. (there : Context) × KeepsContext given.input.parts.now state there
       × IsPositionOf given.position there
-      × IsRest w given.input.parts.now pending x given.position.at (code_of_steps given.steps) there at
-      (code_of_steps left))
+      × IsRest w given.input.parts.now pending x given.position.at
+      (code_of_steps given.steps) there at (code_of_steps left))

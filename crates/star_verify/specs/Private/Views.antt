@@ -1,6 +1,5 @@
 -- The verifier state as definitions see it.
-use Rattle.std.specs.Prelude.{◌≡◌, nat_eq, List, slice_index_or, Option, None}
-use Rattle.std.specs.{Option.option_map, Int.bit_at}
+use Rattle.std.specs.{Prelude.{◌≡◌, nat_eq, List, slice_index_or, Option, None}, Option.option_map, Int.bit_at}
 use Rattle.star_schema.specs.Schema.{index_of}
 use Rattle.star_interval.specs.Interval.{range_of, wide_range_of}
 use Rattle.star_program.specs.declared.value.Kind.{Kind}

@@ -1,10 +1,7 @@
 -- How the arguments of a command are separated, and the request that they make.
-use Rattle.std.specs.Prelude.{◌≡◌, ⊤, ◌++◌, Bool, true, false, ℕ, List, [], ◌∷◌, Option, IfSome, if◌then◌else◌, map}
-use Rattle.std.specs.{Borrow.Bor, Option.option_map}
+use Rattle.std.specs.{Prelude.{◌≡◌, ⊤, ◌++◌, Bool, true, false, ℕ, List, [], ◌∷◌, Option, IfSome, if◌then◌else◌, map}, Borrow.Bor, Option.option_map}
 use Rattle.star_schema.specs.{Most.most_rows, declared.limits.Limits.Limits}
-use Rattle.star_words.specs.Requests.{Asked, HasMostRows, Word, operands_from, options_from, request_asked}
-use Rattle.star_words.specs.{Faults.words_fault_status, declared.fault.WordsFault.WordsFault, declared.fault.WordsFault.TheVariants.EmptyFolder, declared.fault.WordsFault.TheVariants.NotText, declared.fault.WordsFault.TheVariants.OutOfMemory, declared.fault.WordsFault.TheVariants.Told}
-use Rattle.star_words.specs.{declared.request.Arguments.Arguments, declared.request.Request.Request}
+use Rattle.star_words.specs.{Requests.{Asked, HasMostRows, Word, operands_from, options_from, request_asked}, Faults.words_fault_status, declared.fault.WordsFault.WordsFault, declared.fault.WordsFault.TheVariants.{EmptyFolder, NotText, OutOfMemory, Told}, declared.request.Arguments.Arguments, declared.request.Request.Request}
 
 abbrev pub texts : List (Bor Word) → List Word
 texts = map (λ word. word.now)

@@ -1,6 +1,4 @@
-use Rattle.std.proofs.Common.{◌≡◌, ◌<◌, ◌^◌, ◌++◌, ◌∷◌, [], List, append_assoc, length, map}
-use Rattle.std.proofs.{lemmas.List.map-append, lemmas.List.Elements.All-tail}
-use Rattle.std.specs.Vec.Iter.{into_iter_items}
+use Rattle.std.{proofs.Common.{◌≡◌, ◌<◌, ◌^◌, ◌++◌, ◌∷◌, [], List, append_assoc, length, map}, proofs.lemmas.List.map-append, proofs.lemmas.List.Elements.All-tail, specs.Vec.Iter.into_iter_items}
 use Rattle.star_reader.specs.{declared.column.RawColumn.RawColumn, Columns.values}
 use Rattle.star_catalogue.specs.{declared.columns.Column.Column, Private.Columns.as_read}
 use Rattle.star_catalogue.proofs.columns.build_columns.Goals as goal

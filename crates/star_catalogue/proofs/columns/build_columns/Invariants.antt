@@ -1,5 +1,4 @@
-use Rattle.std.proofs.Common.{◌≡◌, ◌<◌, ◌^◌, ◌++◌, All, length, map}
-use Rattle.std.specs.Vec.Iter.{into_iter_items}
+use Rattle.std.{proofs.Common.{◌≡◌, ◌<◌, ◌^◌, ◌++◌, All, length, map}, specs.Vec.Iter.into_iter_items}
 use Rattle.star_reader.specs.Columns.{values}
 use Rattle.star_catalogue.specs.Private.Columns.{as_read}
 use Rattle.star_catalogue.proofs.columns.build_columns.Given as goal

@@ -1,16 +1,14 @@
-use Rattle.std.proofs.Common.{◌≡◌, ◌+◌, ◌-◌, ◌≤◌, length, arith}
-use Rattle.std.specs.List.{zip}
-use Rattle.std.proofs.lemmas.Slice.Zip.{length-zip}
+use Rattle.std.{proofs.Common.{◌≡◌, ◌+◌, ◌-◌, ◌≤◌, length, arith}, specs.List.zip, proofs.lemmas.Slice.Zip.length-zip}
 use Rattle.star_catalogue.proofs.Rising.{rise_more, rising_apart}
 use Rattle.star_catalogue.proofs.keys.is_rising.Goals as goal
 
-pub loop-place-preserved : goal.loop-place-preserved
-loop-place-preserved c =
-    let same : c.loop-place.place + 1 - 1 ≡ c.loop-place.place = omega arith in
+pub loop-index-preserved : goal.loop-index-preserved
+loop-index-preserved c =
+    let same : c.loop-index.index + 1 - 1 ≡ c.loop-index.index = omega arith in
     record {
-      rise = rise_more c.loop-place.place
-          (zip c.args.firsts.now c.args.seconds.now) c.loop-place.before c.pair_at-here.result
-          c.loop-place.invariant.rise c.loop-place.invariant.last c.pair_at-here.ensures
+      rise = rise_more c.loop-index.index
+          (zip c.args.firsts.now c.args.seconds.now) c.loop-index.before c.pair_at-here.result
+          c.loop-index.invariant.rise c.loop-index.invariant.last c.pair_at-here.ensures
           (c.rises.ensures.0 c.if-not-rises.false);
       last = λ _. rw same c.pair_at-here.ensures;
     }
@@ -18,6 +16,6 @@ loop-place-preserved c =
 pub returns : goal.returns
 returns c = λ _.
     let pairs = zip c.args.firsts.now c.args.seconds.now in
-    let all : length pairs ≤ c.loop-place.place =
+    let all : length pairs ≤ c.loop-index.index =
     omega (arith, length-zip c.args.firsts.now c.args.seconds.now) in
-    rising_apart c.loop-place.place pairs c.loop-place.invariant.rise all
+    rising_apart c.loop-index.index pairs c.loop-index.invariant.rise all

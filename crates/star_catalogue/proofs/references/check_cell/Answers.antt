@@ -1,7 +1,6 @@
 use Rattle.std.proofs.Common.{◌≡◌, ◌+◌, [], get_or, FitsSigned, Some, slice_get, sym, w64, to_z-of_z, refl, rules}
-use Rattle.star_schema.specs.{declared.table.TableId.TheVariants.Lineorder, Bounds.numbers_of, Database.rows_in, Loadable.number_at, Schema.place_of, Schema.table_of}
-use Rattle.star_schema.proofs.KeyColumns.{IsNumberOf, foreign_key}
-use Rattle.star_reader.proofs.RowPlaces.{length-numbers_at}
+use Rattle.star_schema.{specs.declared.table.TableId.TheVariants.Lineorder, specs.Bounds.numbers_of, specs.Database.rows_in, specs.Loadable.number_at, specs.Schema.{position_of, table_of}, proofs.KeyColumns.{IsNumberOf, foreign_key}}
+use Rattle.star_reader.proofs.RowIndexes.{length-numbers_at}
 use Rattle.star_catalogue.proofs.{Refers.cell_absent, Refers.cell_known, Refers.number_of_row, references.check_cell.Goals.After-at-number, references.check_cell.Goals.In-Some}
 use Rattle.star_catalogue.proofs.references.check_cell.Goals as goal
 
@@ -16,7 +15,7 @@ pub at-number-requires : goal.at-number-requires
 at-number-requires c =
     rw (
       c.numbers.ensures,
-      length-numbers_at (place_of c.args.column)
+      length-numbers_at (position_of c.args.column)
           (rows_in c.args.tables.now (table_of c.args.column)),
       (key (goal.at.at-number-requires c).In-Some).table,
     ) c.requires.row
@@ -38,8 +37,8 @@ returns-in-None c =
     (get_or (rows_in c.args.tables.now Lineorder) c.args.row []) c.args.column c.in-Some.table
     c.at-number.result (sym c.in-Some.ensures)
     (number_is (goal.at.returns-in-None c).After-at-number)
-    (λ place at. let bad = (rw (c.table.ensures.table, c.table.ensures.rows, to_z-of_z fits) at
-    (c.in-None.ensures place).1) at in cc bad)
+    (λ index at. let bad = (rw (c.table.ensures.table, c.table.ensures.rows, to_z-of_z fits) at
+    (c.in-None.ensures index).1) at in cc bad)
 
 pub returns-in-Some-find : goal.returns-in-Some-find
 returns-in-Some-find c =

@@ -1,5 +1,4 @@
-use Rattle.std.proofs.Common.{◌≡◌, ◌<◌, length, ap, arith}
-use Rattle.std.proofs.{lemmas.Result.err_from_is_err_and}
+use Rattle.std.proofs.{Common.{◌≡◌, ◌<◌, length, ap, arith}, lemmas.Result.err_from_is_err_and}
 use Rattle.star_schema.specs.{declared.table.TableId.TheVariants.Lineorder, Database.rows_in}
 use Rattle.star_catalogue.proofs.Refers.{absent_end, absent_here, absent_on, absent_start}
 use Rattle.star_catalogue.proofs.references.check_references.Goals as goal

@@ -1,6 +1,5 @@
 use Rattle.std.proofs.Common.{◌≡◌}
-use Rattle.star_catalogue.specs.Load.{absent_fault}
-use Rattle.star_catalogue.proofs.Refers.{absent_from}
+use Rattle.star_catalogue.{specs.Load.absent_fault, proofs.Refers.absent_from}
 use Rattle.star_catalogue.proofs.references.check_references.Given as goal
 
 abbrev pub invariant-loop-row : goal.invariant-loop-row

@@ -1,8 +1,6 @@
-use Rattle.std.proofs.Common.{◌≡◌, ◌+◌, ◌≤◌, ℕ, List, [], get_or, length, ◌∙◌, arith}
-use Rattle.std.proofs.{lemmas.Result.err_from_is_err_and}
+use Rattle.std.proofs.{Common.{◌≡◌, ◌+◌, ◌≤◌, ℕ, List, [], get_or, length, ◌∙◌, arith}, lemmas.Result.err_from_is_err_and}
 use Rattle.star_schema.specs.{declared.column.ColumnId.ColumnId, declared.column.ColumnId.TheVariants.DDatekey, declared.table.TableId.TheVariants.Lineorder, Database.rows_in, Loadable.foreign_keys}
-use Rattle.star_catalogue.specs.Load.{foreign_key_fault}
-use Rattle.star_catalogue.proofs.Refers.{after_all, listed_at, row_here, row_on}
+use Rattle.star_catalogue.{specs.Load.foreign_key_fault, proofs.Refers.{after_all, listed_at, row_here, row_on}}
 use Rattle.star_catalogue.proofs.references.check_row.Goals as goal
 
 pub returns-in_err-check_cell : goal.returns-in_err-check_cell

@@ -1,5 +1,4 @@
-use Rattle.std.proofs.Common.{◌++◌, ◌∷◌, ◌∙◌, [], ap, arith, FitsSigned, map, rules, sym, w64, to_z-of_z}
-use Rattle.std.proofs.{lemmas.List.length-map, lemmas.List.map-append, lemmas.Option.slice_get_within}
+use Rattle.std.proofs.{Common.{◌++◌, ◌∷◌, ◌∙◌, [], ap, arith, FitsSigned, map, rules, sym, w64, to_z-of_z}, lemmas.List.{length-map, map-append}, lemmas.Option.slice_get_within}
 use Rattle.star_schema.specs.{Loadable.key_numbers, Loadable.keys_of, Schema.key_of}
 use Rattle.star_catalogue.proofs.ReferredRows.{absent_one, found_more}
 use Rattle.star_catalogue.proofs.referred.find_all.Goals as goal

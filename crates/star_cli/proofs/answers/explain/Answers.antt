@@ -1,6 +1,5 @@
 use Rattle.std.proofs.Common.{refl}
-use Rattle.star_engine.specs.{Answered.change, Queries.IsExplained, Queries.IsQueryError}
-use Rattle.star_engine.proofs.ByClauses.{is_answered}
+use Rattle.star_engine.{specs.Answered.change, specs.Queries.{IsExplained, IsQueryError}, proofs.ByClauses.is_answered}
 use Rattle.star_cli.proofs.answers.explain.Goals as goal
 
 pub returns : goal.returns
@@ -11,7 +10,8 @@ returns g c = λ path texts.
       given = (
         (
           c.explain_query.result,
-          is_answered (change g.S.Sink.contents g.S.Sink.is_failed c.args.out.now c.explain_query.new.out)
+          is_answered
+              (change g.S.Sink.contents g.S.Sink.is_failed c.args.out.now c.explain_query.new.out)
               (IsExplained c.args.file.now) (IsQueryError c.args.file.now) c.explain_query.result
               explained.written explained.broken explained.refused explained.memory,
           c.whole-given.ensures,

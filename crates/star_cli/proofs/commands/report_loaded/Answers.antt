@@ -1,7 +1,6 @@
 use Rattle.std.proofs.Common.{inr, refl}
 use Rattle.star_engine.specs.Answered.{change}
-use Rattle.star_cli.specs.{Commands.reports_unready, declared.failure.Failure.TheVariants.OutOfMemory}
-use Rattle.star_cli.proofs.Steps.{reports_by}
+use Rattle.star_cli.{specs.Commands.reports_unready, specs.declared.failure.Failure.TheVariants.OutOfMemory, proofs.Steps.reports_by}
 use Rattle.star_cli.proofs.commands.report_loaded.Goals as goal
 
 pub returns-in-Ok : goal.returns-in-Ok

@@ -1,5 +1,4 @@
-use Rattle.star_cli.specs.Commands.{reports_unloaded}
-use Rattle.star_cli.proofs.Steps.{done_after}
+use Rattle.star_cli.{specs.Commands.reports_unloaded, proofs.Steps.done_after}
 use Rattle.star_cli.proofs.commands.report_read.Goals as goal
 
 pub returns-in-Ok : goal.returns-in-Ok

@@ -1,7 +1,6 @@
 use Rattle.std.proofs.Common.{inr}
 use Rattle.star_engine.specs.Answered.{change}
-use Rattle.star_cli.specs.Commands.{input_of}
-use Rattle.star_cli.proofs.Steps.{fresh, held}
+use Rattle.star_cli.{specs.Commands.input_of, proofs.Steps.{fresh, held}}
 use Rattle.star_cli.proofs.commands.run_session_over.Goals as goal
 
 pub returns-in-Ok : goal.returns-in-Ok

@@ -1,8 +1,7 @@
 use Rattle.std.proofs.Common.{◌≡◌, subst}
 use Rattle.star_engine.specs.Answered.{change}
 use Rattle.star_service.specs.Lines.{IsTextPrinted}
-use Rattle.star_cli.specs.Commands.{greeting_of, input_of, session_held, session_refused}
-use Rattle.star_cli.proofs.Steps.{held_after}
+use Rattle.star_cli.{specs.Commands.{greeting_of, input_of, session_held, session_refused}, proofs.Steps.held_after}
 use Rattle.star_cli.proofs.commands.start_session.Goals as goal
 
 pub returns-in-Ok : goal.returns-in-Ok

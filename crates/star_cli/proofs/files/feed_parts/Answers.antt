@@ -1,6 +1,5 @@
 use Rattle.std.proofs.Common.{◌≡◌, None, arith, rules, subst, sym, tests}
-use Rattle.star_cli.specs.Stores.{IsAt, part_name, path_in}
-use Rattle.star_cli.proofs.FolderReads.{next_part, no_parts, parts_end, parts_ended}
+use Rattle.star_cli.{specs.Stores.{IsAt, part_name, path_in}, proofs.FolderReads.{next_part, no_parts, parts_end, parts_ended}}
 use Rattle.star_cli.proofs.files.feed_parts.Goals as goal
 
 pub loop-number-init : goal.loop-number-init
@@ -24,5 +23,6 @@ returns-clause-fed g c =
     let full : c.loop-number.number ≡ 1001 = omega arith in
     parts_end (g.R.Store.known c.args.rt.now) c.args.folder.now c.loop-number.number
     c.args.reader.now c.loop-number.reader c.loop-number.invariant (omega arith) (omega arith)
-    (subst (λ n. IsAt (g.R.Store.known c.args.rt.now) (path_in c.args.folder.now (part_name n)) None)
+    (subst (λ n. IsAt (g.R.Store.known c.args.rt.now)
+    (path_in c.args.folder.now (part_name n)) None)
     (sym full) c.in_ok-refuse_more.ensures.absent)

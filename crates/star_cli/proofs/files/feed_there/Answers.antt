@@ -9,7 +9,8 @@ returns g c =
       came,
       (
         file_fed g.R.File.Read.remaining (g.R.Store.known c.args.rt.now c.args.path.now)
-            c.in-Some.opened c.new.result.reader.reader c.read_part.new.input.reader.reader came same
+            c.in-Some.opened c.new.result.reader.reader c.read_part.new.input.reader.reader came
+            same
             (rw c.in-Some.is at c.in_ok-opened.ensures) gone c.in_ok-read_part.ensures.end,
         within,
       ),

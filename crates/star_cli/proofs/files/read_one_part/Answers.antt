@@ -1,6 +1,5 @@
 use Rattle.star_schema.specs.declared.table.TableId.TheVariants.{Lineorder}
-use Rattle.star_cli.specs.{Private.Reads.name_of, Stores.path_in}
-use Rattle.star_cli.proofs.FolderReads.{some_read}
+use Rattle.star_cli.{specs.Private.Reads.name_of, specs.Stores.path_in, proofs.FolderReads.some_read}
 use Rattle.star_cli.proofs.files.read_one_part.Goals as goal
 
 pub returns : goal.returns

@@ -20,4 +20,8 @@ returns-in-None-clause-read g c =
     (λ reader. IsReadIn (g.R.Store.known c.args.rt.now) c.args.folder.now Lineorder reader.value)
     (λ reader. IsLineorderRead (g.R.Store.known c.args.rt.now) c.args.folder.now c.args.only
     reader.value)
-    (λ reader read. (read.0, λ (none : c.args.only ≡ None). read.1, read.2)) c.read_lineorder.ensures.read
+    (λ reader read. (
+      read.0,
+      λ (none : c.args.only ≡ None). read.1,
+      read.2,
+    )) c.read_lineorder.ensures.read

@@ -1,5 +1,4 @@
-use Rattle.star_cli.specs.Private.Errands.{IsErrandFor}
-use Rattle.star_cli.proofs.Zips.{none_zip, zip_done, zip_more}
+use Rattle.star_cli.{specs.Private.Errands.IsErrandFor, proofs.Zips.{none_zip, zip_done, zip_more}}
 use Rattle.star_cli.proofs.jobs.jobs_of.Goals as goal
 
 pub loop-file-init : goal.loop-file-init

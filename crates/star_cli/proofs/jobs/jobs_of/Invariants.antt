@@ -1,6 +1,5 @@
 -- The errands so far.
-use Rattle.std.proofs.Common.{take}
-use Rattle.std.specs.List.{AllZip}
+use Rattle.std.{proofs.Common.take, specs.List.AllZip}
 use Rattle.star_cli.specs.Private.Errands.{IsErrandFor}
 use Rattle.star_cli.proofs.jobs.jobs_of.Given as goal
 

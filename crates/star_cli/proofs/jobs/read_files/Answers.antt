@@ -1,6 +1,5 @@
 use Rattle.std.proofs.lemmas.Result.{err_from_is_err_and}
-use Rattle.star_cli.specs.{Private.Errands.IsReadFrom, declared.failure.Failure.TheVariants.OutOfMemory}
-use Rattle.star_cli.proofs.Zips.{none_zip, one_refused, zip_done, zip_more}
+use Rattle.star_cli.{specs.Private.Errands.IsReadFrom, specs.declared.failure.Failure.TheVariants.OutOfMemory, proofs.Zips.{none_zip, one_refused, zip_done, zip_more}}
 use Rattle.star_cli.proofs.jobs.read_files.Goals as goal
 
 pub loop-path-init : goal.loop-path-init

@@ -1,6 +1,5 @@
 -- The files so far.
-use Rattle.std.proofs.Common.{take}
-use Rattle.std.specs.List.{AllZip}
+use Rattle.std.{proofs.Common.take, specs.List.AllZip}
 use Rattle.star_cli.specs.Private.Errands.{IsReadFrom}
 use Rattle.star_cli.proofs.jobs.read_files.Given as goal
 

@@ -1,6 +1,5 @@
 use Rattle.std.proofs.lemmas.Result.{IfErr-weaker}
-use Rattle.star_cli.specs.FolderLoads.{AreTablesUnread, IsFolderUnread}
-use Rattle.star_cli.proofs.Loading.{unread_in}
+use Rattle.star_cli.{specs.FolderLoads.{AreTablesUnread, IsFolderUnread}, proofs.Loading.unread_in}
 use Rattle.star_cli.proofs.loads.read_named.Goals as goal
 
 pub returns-clause-unread : goal.returns-clause-unread

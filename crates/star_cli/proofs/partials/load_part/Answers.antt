@@ -1,7 +1,6 @@
 use Rattle.std.proofs.Common.{◌≡◌}
 use Rattle.star_catalogue.specs.Pieces.{with_lineorder_text}
-use Rattle.star_cli.specs.Private.Reads.{IsWidest}
-use Rattle.star_cli.proofs.Loading.{read_next, widest_next}
+use Rattle.star_cli.{specs.Private.Reads.IsWidest, proofs.Loading.{read_next, widest_next}}
 use Rattle.star_cli.proofs.partials.load_part.Goals as goal
 
 pub with_lineorder-requires : goal.with_lineorder-requires

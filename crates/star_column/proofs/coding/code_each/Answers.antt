@@ -1,4 +1,4 @@
-use Rattle.star_flat.proofs.RepeatedLemmas.{places_coded, texts_of_coded}
+use Rattle.star_flat.proofs.RepeatedLemmas.{indexes_coded, texts_of_coded}
 use Rattle.star_column.proofs.coding.code_each.Goals as goal
 
 pub returns-clause-texts : goal.returns-clause-texts
@@ -15,7 +15,7 @@ returns-clause-texts c =
 pub returns-clause-repeated : goal.returns-clause-repeated
 returns-clause-repeated c =
     rw (c.of_ordered-dictionary.ensures, c.in_ok-each.ensures.numbers, c.as_slice.ensures.value)
-    (places_coded _ _ _ _ c.parts.ensures.repeated c.in_ok-different.ensures.repeated
+    (indexes_coded _ _ _ _ c.parts.ensures.repeated c.in_ok-different.ensures.repeated
     c.in_ok-different.ensures.texts)
 
 pub returns-clause-sorted : goal.returns-clause-sorted

@@ -1,5 +1,4 @@
-use Rattle.std.proofs.Common.{◌≡◌, length, map, take, vec_len, vec_capacity, slice_index}
-use Rattle.std.specs.Int.RustNames.{unsigned_abs}
+use Rattle.std.{proofs.Common.{◌≡◌, length, map, take, vec_len, vec_capacity, slice_index}, specs.Int.RustNames.unsigned_abs}
 use Rattle.star_column.proofs.coding.read_at.Given as goal
 
 abbrev pub invariant-loop-word : goal.invariant-loop-word

@@ -1,6 +1,5 @@
 -- Eight more bits in front.
-use Rattle.std.proofs.Common.{◌≡◌, ◌+◌, ◌-◌, ◌*◌, map, ap, ◌∙◌, arith}
-use Rattle.std.specs.Simd.Lanes.{chunk, mask_l}
+use Rattle.std.{proofs.Common.{◌≡◌, ◌+◌, ◌-◌, ◌*◌, map, ap, ◌∙◌, arith}, specs.Simd.Lanes.{chunk, mask_l}}
 use Rattle.star_column.proofs.BitLists.{bits_joined, bits_small}
 use Rattle.star_column.proofs.mask.mask_by_eights.Goals as goal
 
@@ -30,7 +29,8 @@ loop-byte-preserved g c =
     let more : 8 + (64 - 8 * c.loop-byte.byte) ≡ 64 - 8 * before =
     omega (arith, c.loop-byte-test.true, c.loop-byte.invariant.within) in
     let rest : c.loop-byte.bits
-    ≡ mask_l (map test (chunk (c.args.first + 8 * before + 8) (64 - 8 * c.loop-byte.byte) numbers)) =
+    ≡ mask_l (map test (chunk (c.args.first + 8 * before + 8)
+    (64 - 8 * c.loop-byte.byte) numbers)) =
     c.loop-byte.invariant.bits
     ∙ ap (λ n. mask_l (map test (chunk n (64 - 8 * c.loop-byte.byte) numbers))) behind in
     let joined = bits_joined test numbers (c.args.first + 8 * before) 8

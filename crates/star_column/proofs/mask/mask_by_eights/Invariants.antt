@@ -1,6 +1,5 @@
 -- The bits of the eights from one on.
-use Rattle.std.proofs.Common.{◌≡◌, ◌≤◌, ◌+◌, ◌-◌, ◌*◌, map}
-use Rattle.std.specs.Simd.Lanes.{chunk, mask_l}
+use Rattle.std.{proofs.Common.{◌≡◌, ◌≤◌, ◌+◌, ◌-◌, ◌*◌, map}, specs.Simd.Lanes.{chunk, mask_l}}
 use Rattle.star_column.proofs.mask.mask_by_eights.Given as goal
 
 abbrev pub invariant-loop-byte : goal.invariant-loop-byte

@@ -1,11 +1,10 @@
 -- The numbers so far.
-use Rattle.std.proofs.Common.{◌≡◌, length, map, take}
-use Rattle.std.specs.Prelude.{slice_index_or}
+use Rattle.std.{proofs.Common.{◌≡◌, length, map, take}, specs.Prelude.slice_index_or}
 use Rattle.star_column.proofs.view.gather_narrow.Given as goal
 
 abbrev pub invariant-loop-at : goal.invariant-loop-at
 invariant-loop-at g l = record {
-  long : length l.into ≡ length l.places;
-  written : take l.at l.into ≡ map (λ place. slice_index_or (map g.W.Word.number l.words) place 0)
-      (take l.at l.places);
+  long : length l.into ≡ length l.indexes;
+  written : take l.at l.into ≡ map (λ index. slice_index_or (map g.W.Word.number l.words) index 0)
+      (take l.at l.indexes);
 }

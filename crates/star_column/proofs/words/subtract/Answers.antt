@@ -1,6 +1,4 @@
-use Rattle.std.proofs.Common.{◌+◌, ◌∙◌, ◌-ℤ◌, ap, arith}
-use Rattle.std.specs.Int.RustNames.{unsigned_abs}
-use Rattle.std.proofs.lemmas.List.{drop-set-lt, length-set}
+use Rattle.std.{proofs.Common.{◌+◌, ◌∙◌, ◌-ℤ◌, ap, arith}, specs.Int.RustNames.unsigned_abs, proofs.lemmas.List.{drop-set-lt, length-set}}
 use Rattle.star_column.proofs.Differences.{later_one, subtracted}
 use Rattle.star_column.proofs.words.subtract.Goals as goal
 

@@ -1,6 +1,5 @@
 -- Each digit fits.
-use Rattle.std.proofs.Common.{◌≡◌, ◌∙◌, get_or, arith, sym, true}
-use Rattle.std.specs.Char.{is_ascii_digit}
+use Rattle.std.{proofs.Common.{◌≡◌, ◌∙◌, get_or, arith, sym, true}, specs.Char.is_ascii_digit}
 use Rattle.star_common.proofs.NumeralLemmas.{below_power, digit_bounds, digits_more, all_more, room}
 use Rattle.star_common.proofs.numeral.magnitude.Goals as goal
 

@@ -1,6 +1,5 @@
 -- What was added so far.
-use Rattle.std.proofs.Common.{◌≡◌, ◌++◌, take}
-use Rattle.std.specs.List.{flat_map}
+use Rattle.std.{proofs.Common.{◌≡◌, ◌++◌, take}, specs.List.flat_map}
 use Rattle.star_common.specs.Quotes.{doubled}
 use Rattle.star_common.proofs.quoting.push_all_doubled.Given as goal
 

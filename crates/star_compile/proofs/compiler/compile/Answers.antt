@@ -5,11 +5,13 @@ use Rattle.star_compile.proofs.compiler.compile.Goals as goal
 
 pub program-requires-clause-limits : goal.program-requires-clause-limits
 program-requires-clause-limits c =
-    c.planned_queries_are_sound.ensures.limits (plan_view c.tree-tree.result.now) c.tree-tree.ensures.planned
+    c.planned_queries_are_sound.ensures.limits (plan_view c.tree-tree.result.now)
+    c.tree-tree.ensures.planned
 
 pub program-requires-clause-spelled : goal.program-requires-clause-spelled
 program-requires-clause-spelled c =
-    c.planned_queries_are_sound.ensures.spelled (plan_view c.tree-tree.result.now) c.tree-tree.ensures.planned
+    c.planned_queries_are_sound.ensures.spelled (plan_view c.tree-tree.result.now)
+    c.tree-tree.ensures.planned
 
 pub program-requires-clause-there : goal.program-requires-clause-there
 program-requires-clause-there c =

@@ -1,6 +1,5 @@
 use Rattle.std.proofs.lemmas.Option.{slice_get-get_or}
-use Rattle.star_engine.specs.{declared.thirteen.BenchmarkQuery.TheVariants.Q11, declared.thirteen.TheConstants.THIRTEEN}
-use Rattle.star_engine.proofs.BenchAnswers.{all_sections, one_section}
+use Rattle.star_engine.{specs.declared.thirteen.BenchmarkQuery.TheVariants.Q11, specs.declared.thirteen.TheConstants.THIRTEEN, proofs.BenchAnswers.{all_sections, one_section}}
 use Rattle.star_engine.proofs.benchmark.bench_of.Goals as goal
 
 pub loop-query-preserved : goal.loop-query-preserved

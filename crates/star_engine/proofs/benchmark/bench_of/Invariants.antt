@@ -1,6 +1,5 @@
 use Rattle.std.proofs.Common.{drop}
-use Rattle.star_engine.specs.declared.thirteen.TheConstants.{THIRTEEN}
-use Rattle.star_engine.proofs.BenchAnswers.{GoesOn}
+use Rattle.star_engine.{specs.declared.thirteen.TheConstants.THIRTEEN, proofs.BenchAnswers.GoesOn}
 use Rattle.star_engine.proofs.benchmark.bench_of.Given as goal
 
 abbrev pub invariant-loop-query : goal.invariant-loop-query

@@ -1,6 +1,5 @@
 use Rattle.std.proofs.Common.{◌≡◌, ◌∙◌, false}
-use Rattle.star_engine.specs.{Queries.IsQueryError, Questions.Asks, Thirteen.query_text}
-use Rattle.star_engine.proofs.QueryFaults.{matched_or_memory}
+use Rattle.star_engine.{specs.Queries.IsQueryError, specs.Questions.Asks, specs.Thirteen.query_text, proofs.QueryFaults.matched_or_memory}
 use Rattle.star_engine.proofs.benchmark.question_of.Goals as goal
 
 pub returns : goal.returns

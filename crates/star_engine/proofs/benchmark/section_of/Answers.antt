@@ -1,6 +1,5 @@
 use Rattle.std.proofs.Common.{◌++◌, ◌∙◌}
-use Rattle.star_engine.specs.Thirteen.{query_text}
-use Rattle.star_engine.proofs.BenchAnswers.{section_written}
+use Rattle.star_engine.{specs.Thirteen.query_text, proofs.BenchAnswers.section_written}
 use Rattle.star_engine.proofs.benchmark.section_of.Goals as goal
 
 pub returns : goal.returns

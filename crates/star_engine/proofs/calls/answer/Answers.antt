@@ -1,7 +1,6 @@
 use Rattle.std.proofs.{Common.refl, lemmas.Result.err_from_is_err_and}
 use Rattle.star_catalogue.specs.Load.{texts_view}
-use Rattle.star_engine.specs.{Answered.change, Loads.IsLoadError, QuoteTexts.IsErrorOfKind, Private.TextSteps.IsQuoteOfTexts, Private.TextSteps.IsRunOfTexts, Private.TextSteps.IsRunErrorOfTexts}
-use Rattle.star_engine.proofs.{Noting.noted_stopped, RunTextLemmas.never_refused, RunTextLemmas.none, RunTextLemmas.noted_of_texts, RunTextLemmas.unloaded}
+use Rattle.star_engine.{specs.Answered.change, specs.Loads.IsLoadError, specs.QuoteTexts.IsErrorOfKind, specs.Private.TextSteps.{IsQuoteOfTexts, IsRunOfTexts, IsRunErrorOfTexts}, proofs.Noting.noted_stopped, proofs.RunTextLemmas.{never_refused, none, noted_of_texts, unloaded}}
 use Rattle.star_engine.proofs.calls.answer.Goals as goal
 
 pub returns-in_err-question : goal.returns-in_err-question

@@ -1,7 +1,6 @@
 use Rattle.std.specs.Prelude.{true}
 use Rattle.star_catalogue.specs.Load.{texts_view}
-use Rattle.star_engine.specs.{Answered.change, Executions.IsFileReport, Executions.IsQuoteOf, Executions.IsRunError, Executions.IsRunOf}
-use Rattle.star_engine.proofs.{ByClauses.run_by_clauses, OneReport.file_report}
+use Rattle.star_engine.{specs.Answered.change, specs.Executions.{IsFileReport, IsQuoteOf, IsRunError, IsRunOf}, proofs.ByClauses.run_by_clauses, proofs.OneReport.file_report}
 use Rattle.star_engine.proofs.calls.answer_program.Goals as goal
 
 pub returns : goal.returns

@@ -1,7 +1,6 @@
 use Rattle.std.specs.Prelude.{false}
 use Rattle.star_catalogue.specs.Load.{texts_view}
-use Rattle.star_engine.specs.{Answered.change, Queries.IsQueryQuote, Queries.IsQueryRun, Queries.IsQueryRunError, Queries.IsReportOf}
-use Rattle.star_engine.proofs.ByClauses.{run_by_clauses}
+use Rattle.star_engine.{specs.Answered.change, specs.Queries.{IsQueryQuote, IsQueryRun, IsQueryRunError, IsReportOf}, proofs.ByClauses.run_by_clauses}
 use Rattle.star_engine.proofs.calls.answer_query.Goals as goal
 
 pub returns : goal.returns

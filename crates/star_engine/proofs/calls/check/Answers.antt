@@ -1,8 +1,6 @@
-use Rattle.std.proofs.Common.{◌∙◌, Err, ap, refl}
-use Rattle.std.proofs.{lemmas.Result.err_from_is_err_and}
+use Rattle.std.proofs.{Common.{◌∙◌, Err, ap, refl}, lemmas.Result.err_from_is_err_and}
 use Rattle.star_catalogue.specs.Load.{texts_view}
-use Rattle.star_engine.specs.{Answered.change, Listing.IsListing, Listing.IsListingOver, Loads.IsLoadError}
-use Rattle.star_engine.proofs.{ByClauses.stopped_by_clauses, Loaded.over_by_clauses}
+use Rattle.star_engine.{specs.Answered.change, specs.Listing.{IsListing, IsListingOver}, specs.Loads.IsLoadError, proofs.ByClauses.stopped_by_clauses, proofs.Loaded.over_by_clauses}
 use Rattle.star_engine.proofs.calls.check.Goals as goal
 
 pub returns-in_err-engine : goal.returns-in_err-engine

@@ -1,7 +1,6 @@
 use Rattle.std.proofs.Common.{◌∙◌}
 use Rattle.star_compile_laws.specs.Compiled.{compiled}
-use Rattle.star_engine.specs.{Answered.change, Queries.IsExplained, Queries.IsQueryError}
-use Rattle.star_engine.proofs.{ByClauses.by_clauses, ByClauses.written, Executing.program_text_some}
+use Rattle.star_engine.{specs.Answered.change, specs.Queries.{IsExplained, IsQueryError}, proofs.ByClauses.{by_clauses, written}, proofs.Executing.program_text_some}
 use Rattle.star_engine.proofs.calls.explain_query.Goals as goal
 
 pub write_text-requires : goal.write_text-requires

@@ -1,9 +1,6 @@
-use Rattle.std.proofs.Common.{◌∙◌, Err, ap, refl}
-use Rattle.std.proofs.{lemmas.Result.err_from_is_err_and}
+use Rattle.std.proofs.{Common.{◌∙◌, Err, ap, refl}, lemmas.Result.err_from_is_err_and}
 use Rattle.star_catalogue.specs.Load.{texts_view}
-use Rattle.star_engine.specs.QuoteTexts.{IsQuoteError, IsQuoteText, IsQuoteTextOver, is_program_file}
-use Rattle.star_engine.specs.{Answered.change, Loads.IsLoadError}
-use Rattle.star_engine.proofs.{ByClauses.stopped_by_clauses, Loaded.over_by_clauses, QueryFaults.or_memory, RunTextLemmas.unquoted_tables}
+use Rattle.star_engine.{specs.QuoteTexts.{IsQuoteError, IsQuoteText, IsQuoteTextOver, is_program_file}, specs.Answered.change, specs.Loads.IsLoadError, proofs.ByClauses.stopped_by_clauses, proofs.Loaded.over_by_clauses, proofs.QueryFaults.or_memory, proofs.RunTextLemmas.unquoted_tables}
 use Rattle.star_engine.proofs.calls.quote_text.Goals as goal
 
 pub returns-in_err-engine : goal.returns-in_err-engine

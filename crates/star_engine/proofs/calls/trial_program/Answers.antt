@@ -1,9 +1,6 @@
-use Rattle.std.proofs.Common.{◌∙◌, Err, ap, refl}
-use Rattle.std.proofs.{lemmas.Result.err_from_is_err_and}
+use Rattle.std.proofs.{Common.{◌∙◌, Err, ap, refl}, lemmas.Result.err_from_is_err_and}
 use Rattle.star_catalogue.specs.Load.{texts_view}
-use Rattle.star_engine.specs.Trials.{IsBoundedReport, IsTrialError, IsTrialErrorOver, IsTrialReport}
-use Rattle.star_engine.specs.{Answered.change, Loads.IsLoadError}
-use Rattle.star_engine.proofs.{ByClauses.stopped_by_clauses, Loaded.over_by_clauses, QueryFaults.or_memory, Trials.no_trial_over, Trials.no_trial_unloaded}
+use Rattle.star_engine.{specs.Trials.{IsBoundedReport, IsTrialError, IsTrialErrorOver, IsTrialReport}, specs.Answered.change, specs.Loads.IsLoadError, proofs.ByClauses.stopped_by_clauses, proofs.Loaded.over_by_clauses, proofs.QueryFaults.or_memory, proofs.Trials.{no_trial_over, no_trial_unloaded}}
 use Rattle.star_engine.proofs.calls.trial_program.Goals as goal
 
 pub returns-in_err-engine : goal.returns-in_err-engine

@@ -1,7 +1,5 @@
-use Rattle.std.proofs.Common.{◌∙◌, Err, ap, refl, sym}
-use Rattle.std.proofs.{lemmas.Result.err_from_is_err_and}
-use Rattle.star_engine.specs.{Answered.change, Executions.IsQuote, Executions.IsProgramRun, Executions.quote_over, Private.Steps.IsNotVerified, RunTexts.run_text_of}
-use Rattle.star_engine.proofs.{Executing.note_has_bytes, Executing.quote_some, Executing.report_has_bytes, Noting.delivered, Noting.note_broken}
+use Rattle.std.proofs.{Common.{◌∙◌, Err, ap, refl, sym}, lemmas.Result.err_from_is_err_and}
+use Rattle.star_engine.{specs.Answered.change, specs.Executions.{IsQuote, IsProgramRun, quote_over}, specs.Private.Steps.IsNotVerified, specs.RunTexts.run_text_of, proofs.Executing.{note_has_bytes, quote_some, report_has_bytes}, proofs.Noting.{delivered, note_broken}}
 use Rattle.star_engine.proofs.executions.execute.Goals as goal
 
 pub write_note-requires : goal.write_note-requires

@@ -1,7 +1,5 @@
-use Rattle.std.proofs.{Common.refl, lemmas.Result.err_from_is_err_and}
-use Rattle.std.specs.Prelude.{string_bytes}
-use Rattle.star_engine.specs.Answered.{change}
-use Rattle.star_engine.proofs.Noting.{report_broken}
+use Rattle.std.{proofs.Common.refl, proofs.lemmas.Result.err_from_is_err_and, specs.Prelude.string_bytes}
+use Rattle.star_engine.{specs.Answered.change, proofs.Noting.report_broken}
 use Rattle.star_engine.proofs.executions.write_run.Goals as goal
 
 pub returns-in_err-write_text : goal.returns-in_err-write_text

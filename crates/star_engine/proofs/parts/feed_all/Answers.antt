@@ -1,5 +1,4 @@
-use Rattle.std.proofs.Common.{◌≡◌, ◌+◌, ◌-◌, ◌≤◌, arith}
-use Rattle.std.proofs.{lemmas.Result.err_from_is_err_and}
+use Rattle.std.proofs.{Common.{◌≡◌, ◌+◌, ◌-◌, ◌≤◌, arith}, lemmas.Result.err_from_is_err_and}
 use Rattle.star_engine.proofs.PieceFeeds.{more, start, whole}
 use Rattle.star_engine.proofs.parts.feed_all.Goals as goal
 

@@ -2,13 +2,11 @@
 use Rattle.std.proofs.Common.{◌≡◌, ◌≤◌, ℕ, List, true, arith, subst}
 use Rattle.star_schema.specs.Database.{Database, rows_in}
 use Rattle.star_plan.specs.Meaning.{Plan}
-use Rattle.star_program.specs.Run.{End, Ended, Trapped, Limited, EndsWith}
-use Rattle.star_program.specs.{Effects.State}
+use Rattle.star_program.specs.{Run.{End, Ended, Trapped, Limited, EndsWith}, Effects.State}
 use Rattle.star_safety.specs.{Laws.EndsWithin, Laws.IsAccepted, Quote.quote}
 use Rattle.star_world.specs.WorldOf.{world_of}
 use Rattle.star_compile_laws.specs.Compiled.{compiled}
-use Rattle.star_engine.specs.{Queries.fact_rows, QueryRuns.HasReported, QueryRuns.PrintsTheReport}
-use Rattle.star_engine.proofs.{FittingTexts.text_fits, PlansOfQueries.plan_sound, PlansOfQueries.plan_spelled, PlansOfQueries.plan_within}
+use Rattle.star_engine.{specs.Queries.fact_rows, specs.QueryRuns.{HasReported, PrintsTheReport}, proofs.FittingTexts.text_fits, proofs.PlansOfQueries.{plan_sound, plan_spelled, plan_within}}
 use Rattle.star_engine.proofs.query_laws.queries_that_fit_are_answered.Goals as goal
 
 pub returns-clause-accepted : goal.returns-clause-accepted

@@ -1,5 +1,4 @@
-use Rattle.std.proofs.Common.{◌≡◌, ◌≤◌, ◌+◌, vec_len}
-use Rattle.std.specs.Io.KnownBytes.{Consumes}
+use Rattle.std.{proofs.Common.{◌≡◌, ◌≤◌, ◌+◌, vec_len}, specs.Io.KnownBytes.Consumes}
 use Rattle.star_engine.specs.Reading.{came_of, has_failed, reader_of, reads_of}
 use Rattle.star_engine.proofs.reading.read_all.Given as goal
 

@@ -1,7 +1,6 @@
 use Rattle.std.proofs.Common.{◌≤◌, arith, length}
 use Rattle.star_schema.specs.{Database.rows_in, Loadable.keys_of, declared.table.TableId.TheVariants.Lineorder}
-use Rattle.star_engine.specs.Partials.{line_numbers}
-use Rattle.star_engine.proofs.SpanLemmas.{first_span, keys_length, no_keys, numbers_of_either, whole_span, wider_span}
+use Rattle.star_engine.{specs.Partials.line_numbers, proofs.SpanLemmas.{first_span, keys_length, no_keys, numbers_of_either, whole_span, wider_span}}
 use Rattle.star_engine.proofs.spans.span_of.Goals as goal
 
 pub returns-then-rows-eq0-clause-within : goal.returns-then-rows-eq0-clause-within

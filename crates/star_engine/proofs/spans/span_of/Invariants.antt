@@ -1,7 +1,6 @@
 -- The span of the keys so far.
 use Rattle.star_schema.specs.{Database.rows_in, Loadable.keys_of, declared.table.TableId.TheVariants.Lineorder}
-use Rattle.star_engine.specs.Partials.{line_numbers}
-use Rattle.star_engine.proofs.SpanLemmas.{IsSpanOf}
+use Rattle.star_engine.{specs.Partials.line_numbers, proofs.SpanLemmas.IsSpanOf}
 use Rattle.star_engine.proofs.spans.span_of.Given as goal
 
 abbrev pub invariant-loop-row : goal.invariant-loop-row

@@ -1,6 +1,4 @@
-use Rattle.std.proofs.Common.{◌≡◌, ◌≤◌, ◌+◌, ◌%◌, ◌^◌, ◌∙◌, ℕ, zero, suc, Bool, List, [], ◌∷◌, ap, ap₂, arith, cond, eqb, inl, inr, length, map, map-id, not, refl, sym, take, w8}
-use Rattle.std.proofs.{lemmas.Bool.cases_Bool, lemmas.Bool.eqb-true, lemmas.List.Sums.prefix_len-le-length, lemmas.List.length-take-le, lemmas.List.take-take, lemmas.Simd.leading_from_mask_l, lemmas.Simd.length-zip2, lemmas.Simd.mask_l-mod, lemmas.Simd.tops_compared, lemmas.Simd.trailing_mask_l}
-use Rattle.std.specs.List.{prefix_len}
+use Rattle.std.{proofs.Common.{◌≡◌, ◌≤◌, ◌+◌, ◌%◌, ◌^◌, ◌∙◌, ℕ, zero, suc, Bool, List, [], ◌∷◌, ap, ap₂, arith, cond, eqb, inl, inr, length, map, map-id, not, refl, sym, take, w8}, proofs.lemmas.Bool.{cases_Bool, eqb-true}, proofs.lemmas.List.Sums.prefix_len-le-length, proofs.lemmas.List.{length-take-le, take-take}, proofs.lemmas.Simd.{leading_from_mask_l, length-zip2, mask_l-mod, tops_compared, trailing_mask_l}, specs.List.prefix_len}
 use lib.Count.{count_trailing_zeros}
 use lib.Lanes.{mask_l, top, zip2}
 use Rattle.star_flat.proofs.met.same_front.Goals as goal
@@ -62,4 +60,5 @@ returns-else-other-eq0 c = λ count few.
     let first = trailing_mask_l (λ d. d) 64 (lanes bytes text c.told-bytes c.requires)
     (omega (arith, all bytes text c.told-bytes c.requires))
     (omega (arith, c.if-other-eq0.false, is)) in
-    same bytes text c.told-bytes c.requires count (omega (arith, few, ap (count_trailing_zeros 64) is ∙ first))
+    same bytes text c.told-bytes c.requires count
+    (omega (arith, few, ap (count_trailing_zeros 64) is ∙ first))

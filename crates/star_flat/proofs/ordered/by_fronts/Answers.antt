@@ -1,7 +1,5 @@
-use Rattle.std.specs.Ordering.{is_lt}
-use Rattle.std.proofs.{Common.ap, Common.rules, lemmas.Fn.always_returns_same, lemmas.List.Sorted.ranks_by}
-use Rattle.star_flat.specs.Private.Order.{by_key}
-use Rattle.star_flat.proofs.{InOrder.AreInOrder-sorted, Keys.key_total}
+use Rattle.std.{specs.Ordering.is_lt, proofs.Common.{ap, rules}, proofs.lemmas.Fn.always_returns_same, proofs.lemmas.List.Sorted.ranks_by}
+use Rattle.star_flat.{specs.Private.Order.by_key, proofs.InOrder.AreInOrder-sorted, proofs.Keys.key_total}
 use Rattle.star_flat.proofs.ordered.by_fronts.Goals as goal
 
 pub returns : goal.returns

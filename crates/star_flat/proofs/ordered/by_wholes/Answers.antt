@@ -1,6 +1,5 @@
 use Rattle.std.proofs.Common.{◌∙◌, ap, map, subst, sym}
-use Rattle.star_flat.specs.Private.Order.{AreInTextOrder, key_of}
-use Rattle.star_flat.proofs.InOrder.{AreInOrder-wholes}
+use Rattle.star_flat.{specs.Private.Order.{AreInTextOrder, key_of}, proofs.InOrder.AreInOrder-wholes}
 use Rattle.star_flat.proofs.ordered.by_wholes.Goals as goal
 
 pub returns : goal.returns

@@ -1,10 +1,9 @@
 use Rattle.std.proofs.Common.{get_or}
-use Rattle.star_flat.specs.Repeated.{places_in}
-use Rattle.star_flat.proofs.RepeatedLemmas.{places_more}
+use Rattle.star_flat.{specs.Repeated.indexes_in, proofs.RepeatedLemmas.indexes_more}
 use Rattle.star_flat.proofs.repeated.renumbered.Goals as goal
 
 pub loop-row-preserved : goal.loop-row-preserved
 loop-row-preserved c =
-    places_more (λ p. get_or c.args.numbers.now p 0) (places_in c.args.rows.now) c.loop-row.row
-    c.place_at.result (places_in c.loop-row.renumbered) (places_in c.push_place.new.rows)
-    c.place_at.ensures c.loop-row.invariant c.in_ok-push_place.ensures.ok
+    indexes_more (λ p. get_or c.args.numbers.now p 0) (indexes_in c.args.rows.now) c.loop-row.row
+    c.index_at.result (indexes_in c.loop-row.renumbered) (indexes_in c.push_index.new.rows)
+    c.index_at.ensures c.loop-row.invariant c.in_ok-push_index.ensures.ok

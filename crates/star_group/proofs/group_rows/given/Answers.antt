@@ -1,6 +1,4 @@
-use Rattle.star_group.proofs.Common.{Entry, ◌≡◌, [], ℕ, Some, length, nat_eq, slice_get, subst, sym, take, ◌∙◌, and_parts, eqb-true, is_grouping, key_view, all_rolled_up, group_with, listed_entries, AreRows}
-use Rattle.star_group.proofs.GivenGroups.{given_are_rows, hides_none, none_put, nothing_rows, some_put}
-use Rattle.star_group.proofs.{Contents.if_ok, ListedRows.row_wide}
+use Rattle.star_group.proofs.{Common.{Entry, ◌≡◌, [], ℕ, Some, length, nat_eq, slice_get, subst, sym, take, ◌∙◌, and_parts, eqb-true, is_grouping, key_view, all_rolled_up, group_with, listed_entries, AreRows}, GivenGroups.{given_are_rows, hides_none, none_put, nothing_rows, some_put}, Contents.if_ok, ListedRows.row_wide}
 use Rattle.star_group.proofs.group_rows.given.Goals as goal
 
 pub nothing_given-requires-clause-none : goal.nothing_given-requires-clause-none

@@ -1,6 +1,4 @@
-use Rattle.star_group.proofs.Common.{◌≡◌, ◌+◌, [], false, get_or, map, rules, take, true, MatchBool, subst, MatchBool-at_false, MatchBool-at_true, key_view, row_found, entries_of, AllStay, SomeLeaves, is_one_of, unwrap_or, MergeStays, MergeLeaves}
-use Rattle.star_group.proofs.MergedRows.{among, key_here, key_within, narrow_at, told_more}
-use Rattle.star_group.proofs.rows.all_take.Goals.{After-row_stays}
+use Rattle.star_group.proofs.{Common.{◌≡◌, ◌+◌, [], false, get_or, map, rules, take, true, MatchBool, subst, MatchBool-at_false, MatchBool-at_true, key_view, row_found, entries_of, AllStay, SomeLeaves, is_one_of, unwrap_or, MergeStays, MergeLeaves}, MergedRows.{among, key_here, key_within, narrow_at, told_more}, rows.all_take.Goals.After-row_stays}
 use Rattle.star_group.proofs.rows.all_take.Goals as goal
 
 pub found-requires : goal.found-requires

@@ -1,5 +1,4 @@
-use Rattle.star_group.proofs.Common.{map, take, key_view, row_found, entries_of, AllStay}
-use Rattle.star_group.proofs.MergedRows.{among}
+use Rattle.star_group.proofs.{Common.{map, take, key_view, row_found, entries_of, AllStay}, MergedRows.among}
 use Rattle.star_group.proofs.rows.all_take.Given as goal
 
 abbrev pub invariant-loop-index : goal.invariant-loop-index

@@ -1,5 +1,4 @@
-use Rattle.star_group.proofs.Common.{◌≡◌, ◌∙◌, ◌+◌, ◌-◌, [], arith, get_or, length, map, subst, sym, key_view, row_found, entries_of, HasSpace, IsNarrow}
-use Rattle.star_group.proofs.MergedRows.{fewer_space, key_here, key_within, merges_more, narrow_at, stays_here}
+use Rattle.star_group.proofs.{Common.{◌≡◌, ◌∙◌, ◌+◌, ◌-◌, [], arith, get_or, length, map, subst, sym, key_view, row_found, entries_of, HasSpace, IsNarrow}, MergedRows.{fewer_space, key_here, key_within, merges_more, narrow_at, stays_here}}
 use Rattle.star_group.proofs.rows.merge_all.Goals as goal
 
 pub merge_one-requires-clause-narrow : goal.merge_one-requires-clause-narrow

@@ -1,5 +1,4 @@
-use Rattle.star_group.proofs.Common.{◌-◌, length, map, take, key_view, row_found, entries_of, AreAsWide, HasSpace, MergesAll}
-use Rattle.star_group.proofs.MergedRows.{among}
+use Rattle.star_group.proofs.{Common.{◌-◌, length, map, take, key_view, row_found, entries_of, AreAsWide, HasSpace, MergesAll}, MergedRows.among}
 use Rattle.star_group.proofs.rows.merge_all.Given as goal
 
 abbrev pub invariant-loop-index : goal.invariant-loop-index

@@ -1,6 +1,5 @@
 -- The range over the corners is the least that holds all sums.
-use Rattle.star_interval.specs.Interval.{range_of}
-use Rattle.star_interval.proofs.Sums.{least_sums}
+use Rattle.star_interval.{specs.Interval.range_of, proofs.Sums.least_sums}
 use Rattle.star_interval.proofs.Interval.add.Goals as goal
 
 pub returns-clause-least : goal.returns-clause-least

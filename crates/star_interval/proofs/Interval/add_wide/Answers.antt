@@ -1,7 +1,6 @@
 -- The sums of the low ends and of the high ends are the least and the greatest over the corners.
 use Rattle.std.proofs.{Common.arith, lemmas.Int.ints}
-use Rattle.star_interval.specs.Interval.{range_of}
-use Rattle.star_interval.proofs.{Ranges.range_same, Sums.sum_ends}
+use Rattle.star_interval.{specs.Interval.range_of, proofs.Ranges.range_same, proofs.Sums.sum_ends}
 use Rattle.star_interval.proofs.Interval.add_wide.Goals as goal
 
 pub returns : goal.returns

@@ -1,6 +1,5 @@
 -- The range over the corners is the least that holds all products.
-use Rattle.star_interval.specs.Interval.{range_of}
-use Rattle.star_interval.proofs.Products.{least_products}
+use Rattle.star_interval.{specs.Interval.range_of, proofs.Products.least_products}
 use Rattle.star_interval.proofs.Interval.mul.Goals as goal
 
 pub returns-clause-least : goal.returns-clause-least

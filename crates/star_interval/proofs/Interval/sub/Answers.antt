@@ -1,6 +1,5 @@
 -- The range over the corners is the least that holds all differences.
-use Rattle.star_interval.specs.Interval.{range_of}
-use Rattle.star_interval.proofs.Sums.{least_differences}
+use Rattle.star_interval.{specs.Interval.range_of, proofs.Sums.least_differences}
 use Rattle.star_interval.proofs.Interval.sub.Goals as goal
 
 pub returns-clause-least : goal.returns-clause-least

@@ -1,7 +1,6 @@
 -- The differences of opposite ends are the least and the greatest over the corners.
 use Rattle.std.proofs.{Common.arith, lemmas.Int.ints}
-use Rattle.star_interval.specs.Interval.{range_of}
-use Rattle.star_interval.proofs.{Ranges.range_same, Sums.difference_ends}
+use Rattle.star_interval.{specs.Interval.range_of, proofs.Ranges.range_same, proofs.Sums.difference_ends}
 use Rattle.star_interval.proofs.Interval.sub_wide.Goals as goal
 
 pub invariant_of-result : goal.invariant_of-result

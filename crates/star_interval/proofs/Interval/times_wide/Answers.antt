@@ -1,7 +1,6 @@
 -- The range of the ends taken n times is the least that holds all multiples.
 use Rattle.std.proofs.Common.{rules}
-use Rattle.star_interval.specs.{Range.multiple_range, Interval.range_of}
-use Rattle.star_interval.proofs.{Ranges.range_same, Ranges.least_same, Products.least_multiples}
+use Rattle.star_interval.{specs.Range.multiple_range, specs.Interval.range_of, proofs.Ranges.{range_same, least_same}, proofs.Products.least_multiples}
 use Rattle.star_interval.proofs.Interval.times_wide.Goals as goal
 
 pub returns-clause-least : goal.returns-clause-least

@@ -1,8 +1,6 @@
 -- The sums of the low ends and of the high ends are the least and the greatest over the corners.
-use Rattle.std.proofs.Common.{◌+ℤ◌, FitsSigned, rules, refl, subst}
-use Rattle.std.specs.Int.{w128}
-use Rattle.star_interval.specs.{Range.corner_range, Interval.wide_range_of}
-use Rattle.star_interval.proofs.{Ranges.range_same, Ranges.least_same, Sums.least_sums, Sums.sum_ends}
+use Rattle.std.{proofs.Common.{◌+ℤ◌, FitsSigned, rules, refl, subst}, specs.Int.w128}
+use Rattle.star_interval.{specs.Range.corner_range, specs.Interval.wide_range_of, proofs.Ranges.{range_same, least_same}, proofs.Sums.{least_sums, sum_ends}}
 use Rattle.star_interval.proofs.Wide.add.Goals as goal
 
 pub returns-clause-least : goal.returns-clause-least

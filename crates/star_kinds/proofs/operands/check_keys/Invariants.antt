@@ -3,8 +3,8 @@ use Rattle.star_program.specs.Faults.{keys_fault}
 use Rattle.star_kinds.specs.Kinds.{register_kinds}
 use Rattle.star_kinds.proofs.operands.check_keys.Given as goal
 
-abbrev pub invariant-loop-place : goal.invariant-loop-place
-invariant-loop-place g l =
+abbrev pub invariant-loop-index : goal.invariant-loop-index
+invariant-loop-index g l =
     keys_fault (length l.registers) (register_kinds g.R.Kinded.kind l.registers)
-    (drop l.place l.declared) (drop l.place l.keys)
+    (drop l.index l.declared) (drop l.index l.keys)
     ≡ keys_fault (length l.registers) (register_kinds g.R.Kinded.kind l.registers) l.declared l.keys

@@ -1,5 +1,4 @@
-use Rattle.std.proofs.Common.{◌<◌, ◌+◌, length, map, sym, ap, subst, ◌∙◌}
-use Rattle.std.specs.Option.{option_or}
+use Rattle.std.{proofs.Common.{◌<◌, ◌+◌, length, map, sym, ap, subst, ◌∙◌}, specs.Option.option_or}
 use Rattle.star_program.specs.ShowLines.{first_unshown}
 use Rattle.star_kinds.proofs.Lines.{both_lines, reported, not_empty}
 use Rattle.star_kinds.proofs.report.misnamed_line.Goals as goal

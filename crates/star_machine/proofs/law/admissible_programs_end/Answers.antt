@@ -1,6 +1,5 @@
 -- The run ends within the quote, and so does what a trial answers of it.
-use Rattle.std.proofs.Common.{◌≡◌, ◌≤◌, ℕ, arith, refl, subst}
-use Rattle.std.specs.Prelude.{MatchResult, Result, Ok, Err}
+use Rattle.std.{proofs.Common.{◌≡◌, ◌≤◌, ℕ, arith, refl, subst}, specs.Prelude.{MatchResult, Result, Ok, Err}}
 use Rattle.star_program.specs.{declared.outcome.Outcome.Outcome, declared.program.Parts.Parts, Run.bounded_run_of, World.World}
 use Rattle.star_safety.specs.{Laws.EndsWithin, Quote.quote}
 use Rattle.star_trial.specs.{declared.fault.TrialFault.TrialFault, Trials.IsTrial}

@@ -1,8 +1,5 @@
-use Rattle.std.proofs.Common.{◌≡◌, ◌∙◌, ◌++◌, [], ◌∷◌, None, arith, map, true}
-use Rattle.std.proofs.{lemmas.Grind.common_steps, lemmas.Result.on_ok_weaker}
-use Rattle.std.specs.Option.{is_some}
-use Rattle.star_merge.specs.Cells.{key_of}
-use Rattle.star_merge.proofs.Steps.{pushed_groupings}
+use Rattle.std.{proofs.Common.{◌≡◌, ◌∙◌, ◌++◌, [], ◌∷◌, None, arith, map, true}, proofs.lemmas.Grind.common_steps, proofs.lemmas.Result.on_ok_weaker, specs.Option.is_some}
+use Rattle.star_merge.{specs.Cells.key_of, proofs.Steps.pushed_groupings}
 use Rattle.star_merge.proofs.groupings.+push_groupings.Goals as goal
 
 pub returns-in_ok-push_groupings-in-len1-up : goal.returns-in_ok-push_groupings-in-len1-up

@@ -1,5 +1,4 @@
-use Rattle.std.proofs.Common.{◌≡◌, map, take}
-use Rattle.std.specs.List.{flat_map}
+use Rattle.std.{proofs.Common.{◌≡◌, map, take}, specs.List.flat_map}
 use Rattle.star_program.specs.RowCells.{cell_of}
 use Rattle.star_merge.proofs.merging.all_cells.Given as goal
 

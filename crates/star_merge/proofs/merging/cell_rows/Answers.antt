@@ -1,6 +1,5 @@
 use Rattle.std.proofs.{Common.length, Common.map, Common.ap, Common.◌∙◌, lemmas.List.length-map}
-use Rattle.star_program.specs.{RowCells.cell_of, Rows.cut}
-use Rattle.star_program.proofs.Rows.{cut_rows, length-rows}
+use Rattle.star_program.{specs.RowCells.cell_of, specs.Rows.cut, proofs.Rows.{cut_rows, length-rows}}
 use Rattle.star_merge.proofs.merging.cell_rows.Goals as goal
 
 pub from_cells-requires : goal.from_cells-requires

@@ -1,5 +1,4 @@
-use Rattle.std.proofs.Common.{map, take}
-use Rattle.std.specs.List.{flat_map}
+use Rattle.std.{proofs.Common.{map, take}, specs.List.flat_map}
 use Rattle.star_merge.specs.{Cells.group_of, Private.Adding.HasMerged}
 use Rattle.star_merge.proofs.merging.merge_rows.Given as goal
 

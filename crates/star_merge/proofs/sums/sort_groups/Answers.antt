@@ -1,7 +1,6 @@
 use Rattle.std.proofs.Common.{rules}
 use Rattle.star_outcome.proofs.SortedRows.{sorted_by_answers}
-use Rattle.star_merge.specs.Private.RowOrder.{row_order}
-use Rattle.star_merge.proofs.RowOrders.{row_total}
+use Rattle.star_merge.{specs.Private.RowOrder.row_order, proofs.RowOrders.row_total}
 use Rattle.star_merge.proofs.sums.sort_groups.Goals as goal
 
 pub returns-clause-sorted : goal.returns-clause-sorted

@@ -1,13 +1,11 @@
-use Rattle.std.proofs.Common.{◌<◌, ap, arith, length, sym}
-use Rattle.std.proofs.lemmas.Option.{slice_get-get_or}
-use Rattle.star_schema.specs.Schema.{index_of}
-use Rattle.star_schema.proofs.Same.{index_within}
+use Rattle.std.proofs.{Common.{◌<◌, ap, arith, length, sym}, lemmas.Option.slice_get-get_or}
+use Rattle.star_schema.{specs.Schema.index_of, proofs.Same.index_within}
 use Rattle.star_partial.specs.Contents.{range_if}
 use Rattle.star_merger.proofs.dimensions.bounds_of.Goals as goal
 
 pub returns : goal.returns
 returns c =
     let bounds = c.args.bounds.now in
-    let place = index_of c.args.column in
-    let inside : place < length bounds = omega (arith, index_within c.args.column) in
-    sym (ap range_if (slice_get-get_or bounds place c.index-bounds-column.result inside))
+    let index = index_of c.args.column in
+    let inside : index < length bounds = omega (arith, index_within c.args.column) in
+    sym (ap range_if (slice_get-get_or bounds index c.index-bounds-column.result inside))

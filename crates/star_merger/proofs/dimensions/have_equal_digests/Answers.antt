@@ -1,7 +1,4 @@
-use Rattle.std.proofs.Common.{◌∙◌, ap, sym}
-use Rattle.std.proofs.lemmas.Cmp.{nat_list_eq_equiv}
-use Rattle.std.specs.Cmp.Lexicographic.{pointwise}
-use Rattle.std.specs.Prelude.{nat_eq}
+use Rattle.std.{proofs.Common.{◌∙◌, ap, sym}, proofs.lemmas.Cmp.nat_list_eq_equiv, specs.Cmp.Lexicographic.pointwise, specs.Prelude.nat_eq}
 use Rattle.star_merger.proofs.dimensions.have_equal_digests.Goals as goal
 
 pub returns : goal.returns

@@ -1,5 +1,4 @@
-use Rattle.std.proofs.Common.{◌∙◌, sym}
-use Rattle.std.proofs.lemmas.Bool.{true≢false}
+use Rattle.std.proofs.{Common.{◌∙◌, sym}, lemmas.Bool.true≢false}
 use Rattle.star_merger.proofs.facts.checked_facts.Goals as goal
 
 pub returns-then-is_distinct : goal.returns-then-is_distinct

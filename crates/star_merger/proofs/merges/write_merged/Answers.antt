@@ -1,9 +1,6 @@
 use Rattle.std.proofs.Common.{◌≡◌, List, map, refl, ℕ}
-use Rattle.star_merger.specs.Partials.{contents_of}
-use Rattle.star_engine.specs.{Answered.change, WithNotes.RunText}
-use Rattle.star_engine.proofs.NotedAs.{noted_as}
-use Rattle.star_merger.specs.{Private.Outcomes.IsUnmerged, Private.Written.IsMergedTelling, Private.Written.run_text_of}
-use Rattle.star_merger.proofs.{Results.as_noted, Results.not_merged, Results.noted_unprinted, Results.unprinted_same}
+use Rattle.star_merger.{specs.Partials.contents_of, specs.Private.Outcomes.IsUnmerged, specs.Private.Written.{IsMergedTelling, run_text_of}, proofs.Results.{as_noted, not_merged, noted_unprinted, unprinted_same}}
+use Rattle.star_engine.{specs.Answered.change, specs.WithNotes.RunText, proofs.NotedAs.noted_as}
 use Rattle.star_merger.proofs.merges.write_merged.Goals as goal
 
 pub returns-in-Ok-clause-merged : goal.returns-in-Ok-clause-merged
@@ -15,7 +12,7 @@ returns-in-Ok-clause-merged g c = λ query is.
     let IsQuote = λ (quoted : List ℕ). quoted ≡ c.args.note.now in
     let IsTold = IsMergedTelling is.p all c.args.rows c.args.note.now in
     rw c.as_merge.ensures
-    (as_noted out notes IsQuote IsTold (λ fault. ⊥) (IsUnmerged all) c.write_outcome.result
+    (as_noted out notes IsQuote IsTold (λ fault. ⊥) (IsUnmerged is.p all) c.write_outcome.result
     (noted_as out notes IsQuote IsQuote
     (λ (run : RunText). run ≡ run_text_of c.args.note.now c.in-Ok.outcome) IsTold
     (λ fault. ⊥) (λ fault. ⊥) c.write_outcome.result (λ quoted is. is)
@@ -30,8 +27,9 @@ returns-in-Err-clause-merged g c = λ query is.
     (change g.S.Sink.contents g.S.Sink.is_failed c.args.out.now c.args.out.now)
     (change g.N.Sink.contents g.N.Sink.is_failed c.args.notes.now c.args.notes.now)
     (λ (quoted : List ℕ). quoted ≡ c.args.note.now)
-    (IsMergedTelling is.p all c.args.rows c.args.note.now) (λ fault. ⊥) all c.in-Err.fault refl refl
-    c.in-Err.ensures.failed
+    (IsMergedTelling is.p all c.args.rows c.args.note.now)
+    (λ fault. ⊥) is.p all c.in-Err.fault refl refl
+    (c.in-Err.ensures.failed query is)
 
 pub returns-in-Ok-clause-unprinted : goal.returns-in-Ok-clause-unprinted
 returns-in-Ok-clause-unprinted g c =

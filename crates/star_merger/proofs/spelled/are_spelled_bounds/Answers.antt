@@ -1,11 +1,6 @@
-use Rattle.std.proofs.Common.{◌≡◌, ◌+◌, ◌<◌, ◌∙◌, ◌⊎◌, ℕ, zero, suc, List, [], ◌∷◌, Some, ap, arith, get_or, inl, inr, subst, sym}
-use Rattle.std.proofs.Math.Nat.{eq-or-lt_of_le}
-use Rattle.std.specs.List.{slice_get}
+use Rattle.std.{proofs.Common.{◌≡◌, ◌+◌, ◌<◌, ◌∙◌, ◌⊎◌, ℕ, zero, suc, List, [], ◌∷◌, Some, ap, arith, get_or, inl, inr, subst, sym}, proofs.Math.Nat.eq-or-lt_of_le, specs.List.slice_get}
 use Rattle.star_interval.specs.declared.Interval.{Interval}
-use Rattle.star_schema.specs.declared.column.ColumnId.{ColumnId}
-use Rattle.star_schema.specs.declared.column.TheConstants.{COLUMNS}
-use Rattle.star_schema.specs.Schema.{index_of}
-use Rattle.star_schema.proofs.Same.{at_index, index_within}
+use Rattle.star_schema.{specs.declared.column.ColumnId.ColumnId, specs.declared.column.TheConstants.COLUMNS, specs.Schema.index_of, proofs.Same.{at_index, index_within}}
 use Rattle.star_partial.specs.Contents.{bounds_at}
 use Rattle.star_merger.specs.Spelled.{HasBounds}
 use Rattle.star_merger.proofs.spelled.are_spelled_bounds.Goals as goal
@@ -23,7 +18,8 @@ one_more bounds i d before here c within =
     let upto : (index_of c ≡ i) ⊎ (index_of c < i) = eq-or-lt_of_le (omega (arith, within)) in
     elim upto [
       | inl e ↦ subst (λ c. HasBounds c (bounds_at bounds c))
-          (ap (λ i. get_or COLUMNS i d) (sym e) ∙ item_at COLUMNS (index_of c) d c (at_index c)) here
+          (ap (λ i. get_or COLUMNS i d) (sym e)
+          ∙ item_at COLUMNS (index_of c) d c (at_index c)) here
       | inr below ↦ before c below
     ]
 

@@ -1,6 +1,5 @@
 use Rattle.std.proofs.Common.{◌<◌}
-use Rattle.star_schema.specs.declared.column.ColumnId.{ColumnId}
-use Rattle.star_schema.specs.Schema.{index_of}
+use Rattle.star_schema.specs.{declared.column.ColumnId.ColumnId, Schema.index_of}
 use Rattle.star_partial.specs.Contents.{bounds_at}
 use Rattle.star_merger.specs.Spelled.{HasBounds}
 use Rattle.star_merger.proofs.spelled.are_spelled_bounds.Given as goal

@@ -1,5 +1,4 @@
-use Rattle.std.proofs.Common.{◌<◌, ℕ, List, get_or}
-use Rattle.std.specs.List.{AllZip}
+use Rattle.std.{proofs.Common.{◌<◌, ℕ, List, get_or}, specs.List.AllZip}
 use Rattle.star_program.specs.declared.outcome.Cell.{Cell}
 use Rattle.star_report.specs.Columns.{IsCellOfKind}
 use Rattle.star_merger.specs.Columns.{column_kinds}

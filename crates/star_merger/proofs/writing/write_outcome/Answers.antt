@@ -1,7 +1,5 @@
-use Rattle.std.proofs.Common.{◌≡◌, ◌∙◌, Err, List, ap, refl, ℕ}
-use Rattle.std.proofs.{lemmas.Result.err_from_is_err_and}
-use Rattle.star_engine.specs.{Answered.change, WithNotes.RunText}
-use Rattle.star_engine.proofs.Noting.{delivered, note_broken}
+use Rattle.std.proofs.{Common.{◌≡◌, ◌∙◌, Err, List, ap, refl, ℕ}, lemmas.Result.err_from_is_err_and}
+use Rattle.star_engine.{specs.Answered.change, specs.WithNotes.RunText, proofs.Noting.{delivered, note_broken}}
 use Rattle.star_merger.specs.Private.Written.{run_text_of}
 use Rattle.star_merger.proofs.writing.write_outcome.Goals as goal
 

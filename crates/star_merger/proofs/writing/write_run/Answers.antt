@@ -1,8 +1,6 @@
-use Rattle.std.proofs.Common.{◌∙◌, refl}
-use Rattle.std.proofs.lemmas.Result.{err_from_is_err_and}
+use Rattle.std.proofs.{Common.{◌∙◌, refl}, lemmas.Result.err_from_is_err_and}
 use Rattle.star_report.specs.Report.{report_text}
-use Rattle.star_engine.specs.{Answered.change, Notes.counts_line}
-use Rattle.star_engine.proofs.Noting.{report_broken}
+use Rattle.star_engine.{specs.Answered.change, specs.Notes.counts_line, proofs.Noting.report_broken}
 use Rattle.star_merger.proofs.writing.write_run.Goals as goal
 
 pub returns-in_err-write_text : goal.returns-in_err-write_text

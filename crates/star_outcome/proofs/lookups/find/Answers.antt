@@ -1,5 +1,4 @@
-use Rattle.std.proofs.Common.{◌≡◌, ◌↔◌, ℕ, length, Some, [], ◌∷◌, slice_get, subst, rules, w64, FitsSigned}
-use Rattle.std.proofs.{lemmas.Int.to_z-of_z}
+use Rattle.std.proofs.{Common.{◌≡◌, ◌↔◌, ℕ, length, Some, [], ◌∷◌, slice_get, subst, rules, w64, FitsSigned}, lemmas.Int.to_z-of_z}
 use Rattle.star_schema.specs.{Database.rows_in, Loadable.keys_of}
 use Rattle.star_world.proofs.{Found.is_position, Found.found_within, Loaded.keys_len}
 use Rattle.star_outcome.proofs.lookups.find.Goals as goal

@@ -1,15 +1,13 @@
 use Rattle.std.proofs.{Common.◌∙◌, Common.◌≡◌, Common.[], Common.arith, Common.rules, Common.FitsSigned, Common.pos, Common.sym, Common.w64, lemmas.Option.get_or_from_slice_get, lemmas.Option.slice_get-get_or}
-use Rattle.star_schema.specs.{Database.rows_in, Schema.table_of, Dictionary.dictionary_of, Columns.column_numbers, Columns.column_texts}
-use Rattle.star_schema.proofs.{Dictionaries.IsDictionary-dictionary_of, TextPlaces.low_in-place}
-use Rattle.star_world.proofs.Loaded.{texts_len}
-use Rattle.star_world.specs.WorldOf.{world_of}
+use Rattle.star_schema.{specs.Database.rows_in, specs.Schema.table_of, specs.Dictionary.dictionary_of, specs.Columns.{column_numbers, column_texts}, proofs.Dictionaries.IsDictionary-dictionary_of, proofs.TextIndexes.low_in-index}
+use Rattle.star_world.{proofs.Loaded.texts_len, specs.WorldOf.world_of}
 use Rattle.star_outcome.proofs.lookups.load.Goals as goal
 
 pub returns-then-is_text-clause-value : goal.returns-then-is_text-clause-value
 returns-then-is_text-clause-value c =
     let texts = column_texts c.args.catalogue.now c.args.column in
     let code : c.code.result ≡ (world_of c.args.catalogue.now).code c.args.column c.args.row =
-    sym (low_in-place (dictionary_of texts) (IsDictionary-dictionary_of texts).sorted c.code.result
+    sym (low_in-index (dictionary_of texts) (IsDictionary-dictionary_of texts).sorted c.code.result
     _ (c.code.ensures.stands
     ∙ slice_get-get_or texts c.args.row []
     (omega (

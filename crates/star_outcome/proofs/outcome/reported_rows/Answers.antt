@@ -1,11 +1,8 @@
-use Rattle.std.proofs.Common.{map, refl, subst, sym, ◌∙◌}
-use Rattle.std.proofs.{lemmas.Simd.map-map}
-use Rattle.star_group.proofs.Contents.{if_ok}
-use Rattle.star_group.specs.{StoreRows.row_at, Stores.group_declared}
+use Rattle.std.proofs.{Common.{map, refl, subst, sym, ◌∙◌}, lemmas.Simd.map-map}
+use Rattle.star_group.{proofs.Contents.if_ok, specs.StoreRows.row_at, specs.Stores.group_declared}
 use Rattle.star_program.specs.Faults.{group_at}
-use Rattle.star_outcome.specs.Private.Decoded.{AreSortedGroups, row_cells}
+use Rattle.star_outcome.{specs.Private.Decoded.{AreSortedGroups, row_cells}, proofs.Reported.{are_reported, decodable_by_number, rows_decodable, sound_counts}, proofs.Shows.{few_keys, shows_are_there}}
 use Rattle.star_world.specs.WorldOf.{world_of}
-use Rattle.star_outcome.proofs.{Reported.are_reported, Reported.decodable_by_number, Reported.rows_decodable, Reported.sound_counts, Shows.few_keys, Shows.shows_are_there}
 use Rattle.star_outcome.proofs.outcome.reported_rows.Goals as goal
 
 pub sorted_numbers-requires-clause-few : goal.sorted_numbers-requires-clause-few

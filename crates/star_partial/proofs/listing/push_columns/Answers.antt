@@ -4,20 +4,20 @@ use Rattle.star_partial.specs.{Contents.bounds_at, Listing.column_text}
 use Rattle.star_report.proofs.Parts.{all_parts, one_more}
 use Rattle.star_partial.proofs.listing.push_columns.Goals as goal
 
-pub loop-place-preserved : goal.loop-place-preserved
-loop-place-preserved c =
+pub loop-index-preserved : goal.loop-index-preserved
+loop-index-preserved c =
     let part : ColumnId → List ℕ =
     λ column. column_text (bounds_at c.args.bounds.now) column (kind_of column) in
     rw c.in_ok-push_column.ensures
-    (one_more part (columns_of c.args.table) c.loop-place.place c.column_at.result
-    (string_bytes c.args.text.now) (string_bytes c.loop-place.text) c.column_at.ensures.at
-    c.loop-place.invariant)
+    (one_more part (columns_of c.args.table) c.loop-index.index c.column_at.result
+    (string_bytes c.args.text.now) (string_bytes c.loop-index.text) c.column_at.ensures.at
+    c.loop-index.invariant)
 
 pub returns : goal.returns
 returns c =
     let part : ColumnId → List ℕ =
     λ column. column_text (bounds_at c.args.bounds.now) column (kind_of column) in
-    let past : length (columns_of c.args.table) ≤ c.loop-place.place =
-    omega (arith, c.width-place-end.ensures, c.loop-place-test.false) in
-    all_parts part (columns_of c.args.table) c.loop-place.place (string_bytes c.args.text.now)
-    (string_bytes c.loop-place.text) past c.loop-place.invariant
+    let past : length (columns_of c.args.table) ≤ c.loop-index.index =
+    omega (arith, c.width-index-end.ensures, c.loop-index-test.false) in
+    all_parts part (columns_of c.args.table) c.loop-index.index (string_bytes c.args.text.now)
+    (string_bytes c.loop-index.text) past c.loop-index.invariant

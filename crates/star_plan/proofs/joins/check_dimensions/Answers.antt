@@ -1,7 +1,6 @@
 use Rattle.std.proofs.Common.{arith}
-use Rattle.star_plan.specs.{Faults.missing_fault, Private.Found.pairs_view}
+use Rattle.star_plan.{specs.Faults.missing_fault, specs.Private.Found.pairs_view, proofs.Viewed.answer_found}
 use Rattle.star_query.specs.Views.{name_view}
-use Rattle.star_plan.proofs.Viewed.{answer_found}
 use Rattle.star_plan.proofs.joins.check_dimensions.Goals as goal
 
 pub returns-in_err-check_dimension : goal.returns-in_err-check_dimension

@@ -1,6 +1,5 @@
 use Rattle.star_query.specs.Views.{name_view}
-use Rattle.star_plan.specs.{Faults.missing_fault, Private.Found.pairs_view}
-use Rattle.star_plan.proofs.Viewed.{AnswerSoFar}
+use Rattle.star_plan.{specs.Faults.missing_fault, specs.Private.Found.pairs_view, proofs.Viewed.AnswerSoFar}
 use Rattle.star_plan.proofs.joins.check_dimensions.Given as goal
 
 abbrev pub invariant-loop-name : goal.invariant-loop-name

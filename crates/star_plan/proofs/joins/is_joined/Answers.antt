@@ -1,6 +1,5 @@
 use Rattle.std.proofs.Common.{◌∙◌}
-use Rattle.star_plan.specs.{Joins.joins, Private.Found.pair_view}
-use Rattle.star_plan.proofs.Viewed.{any_viewed}
+use Rattle.star_plan.{specs.Joins.joins, specs.Private.Found.pair_view, proofs.Viewed.any_viewed}
 use Rattle.star_plan.proofs.joins.is_joined.Goals as goal
 
 pub returns : goal.returns

@@ -1,8 +1,6 @@
-use Rattle.std.proofs.Common.{◌∙◌, nat_eq}
-use Rattle.std.specs.Cmp.Lexicographic.{pointwise}
+use Rattle.std.{proofs.Common.{◌∙◌, nat_eq}, specs.Cmp.Lexicographic.pointwise}
 use Rattle.star_query.specs.Views.{name_view}
-use Rattle.star_plan.specs.Names.{has_name}
-use Rattle.star_plan.proofs.Viewed.{any_viewed}
+use Rattle.star_plan.{specs.Names.has_name, proofs.Viewed.any_viewed}
 use Rattle.star_plan.proofs.names.has_name.Goals as goal
 
 pub returns : goal.returns

@@ -1,7 +1,6 @@
 use Rattle.std.proofs.Common.{map}
 use Rattle.star_query.specs.Views.{name_view}
-use Rattle.star_plan.specs.Views.{names_view}
-use Rattle.star_plan.proofs.Sought.{found_told, missing_told, order_sought}
+use Rattle.star_plan.{specs.Views.names_view, proofs.Sought.{found_told, missing_told, order_sought}}
 use Rattle.star_plan.proofs.order.sort_key.Goals as goal
 
 pub returns-in-None-clause-told : goal.returns-in-None-clause-told

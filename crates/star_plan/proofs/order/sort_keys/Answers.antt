@@ -1,7 +1,6 @@
 use Rattle.std.proofs.Common.{arith, map}
 use Rattle.star_query.specs.Views.{name_view, sort_key_view}
-use Rattle.star_plan.specs.{Faults.key_fault, Views.names_view}
-use Rattle.star_plan.proofs.{Exits.tells, Viewed.answer_found}
+use Rattle.star_plan.{specs.Faults.key_fault, specs.Views.names_view, proofs.Exits.tells, proofs.Viewed.answer_found}
 use Rattle.star_plan.proofs.order.sort_keys.Goals as goal
 
 pub returns-in_err-sort_key-clause-told : goal.returns-in_err-sort_key-clause-told

@@ -1,7 +1,6 @@
 use Rattle.std.proofs.Common.{◌≡◌, drop, map}
 use Rattle.star_query.specs.Views.{name_view, sort_key_view}
-use Rattle.star_plan.specs.{Faults.key_fault, Resolved.option_all, Naming.resolved_key, Views.names_view}
-use Rattle.star_plan.proofs.{Options.with_rest, Viewed.AnswerSoFar}
+use Rattle.star_plan.{specs.Faults.key_fault, specs.Resolved.option_all, specs.Naming.resolved_key, specs.Views.names_view, proofs.Options.with_rest, proofs.Viewed.AnswerSoFar}
 use Rattle.star_plan.proofs.order.sort_keys.Given as goal
 
 abbrev pub invariant-loop-key : goal.invariant-loop-key

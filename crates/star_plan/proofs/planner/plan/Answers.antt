@@ -1,7 +1,6 @@
 use Rattle.std.proofs.{Common.subst, lemmas.Grind.merely}
 use Rattle.star_query.specs.Views.{tree_view}
-use Rattle.star_plan.specs.WellNamed.{IsWellNamed}
-use Rattle.star_plan.proofs.Conditions.{well_named}
+use Rattle.star_plan.{specs.WellNamed.IsWellNamed, proofs.Conditions.well_named}
 use Rattle.star_plan.proofs.planner.plan.Goals as goal
 
 pub invariant_of-result : goal.invariant_of-result

@@ -1,7 +1,6 @@
 use Rattle.std.proofs.Common.{◌≡◌, ◌++◌, ◌+◌, ◌≤◌, drop, length, map}
 use Rattle.star_query.specs.Views.{item_view}
-use Rattle.star_plan.specs.{Naming.aggregate_names, Naming.names_from, Private.Stages.resolved_measures, Views.measures_view, Views.names_view}
-use Rattle.star_plan.proofs.Options.{with_rest}
+use Rattle.star_plan.{specs.Naming.{aggregate_names, names_from}, specs.Private.Stages.resolved_measures, specs.Views.{measures_view, names_view}, proofs.Options.with_rest}
 use Rattle.star_plan.proofs.resolve.resolve_aggregates.Given as goal
 
 abbrev pub invariant-loop-item : goal.invariant-loop-item

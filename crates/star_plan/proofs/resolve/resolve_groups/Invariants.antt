@@ -1,7 +1,6 @@
 use Rattle.std.proofs.Common.{◌≡◌, drop, map}
 use Rattle.star_query.specs.Views.{name_view}
-use Rattle.star_plan.specs.{Names.column_at, Resolved.option_all}
-use Rattle.star_plan.proofs.Options.{with_rest}
+use Rattle.star_plan.{specs.Names.column_at, specs.Resolved.option_all, proofs.Options.with_rest}
 use Rattle.star_plan.proofs.resolve.resolve_groups.Given as goal
 
 abbrev pub invariant-loop-name : goal.invariant-loop-name

@@ -1,7 +1,5 @@
-use Rattle.std.proofs.Common.{◌∙◌, nat_eq}
-use Rattle.std.specs.Cmp.Lexicographic.{pointwise}
-use Rattle.star_plan.specs.Naming.{has_text}
-use Rattle.star_plan.proofs.Viewed.{any_viewed}
+use Rattle.std.{proofs.Common.{◌∙◌, nat_eq}, specs.Cmp.Lexicographic.pointwise}
+use Rattle.star_plan.{specs.Naming.has_text, proofs.Viewed.any_viewed}
 use Rattle.star_plan.proofs.select.has_aggregate.Goals as goal
 
 pub returns : goal.returns

@@ -1,8 +1,6 @@
-use Rattle.std.proofs.Common.{◌∙◌, ◌+◌, ap, arith, map, sym}
-use Rattle.std.proofs.{lemmas.Grind.common_steps}
+use Rattle.std.proofs.{Common.{◌∙◌, ◌+◌, ap, arith, map, sym}, lemmas.Grind.common_steps}
 use Rattle.star_query.specs.Views.{item_view, name_view}
-use Rattle.star_plan.specs.{Faults.item_fault, Views.names_view}
-use Rattle.star_plan.proofs.{Aggregates.item_passed, Aggregates.items_next, Aggregates.names_taken, Aggregates.next_counted, Aggregates.next_named, Exits.tells, Viewed.beside_found}
+use Rattle.star_plan.{specs.Faults.item_fault, specs.Views.names_view, proofs.Aggregates.{item_passed, items_next, names_taken, next_counted, next_named}, proofs.Exits.tells, proofs.Viewed.beside_found}
 use Rattle.star_plan.proofs.select.show_items.Goals as goal
 
 pub show_item-requires-clause-named : goal.show_item-requires-clause-named

@@ -1,7 +1,6 @@
 use Rattle.std.proofs.Common.{◌≡◌, ◌≤◌, drop, length, map, take}
 use Rattle.star_query.specs.Views.{item_view, name_view}
-use Rattle.star_plan.specs.{Faults.item_fault, Naming.aggregate_names, Resolved.items_from}
-use Rattle.star_plan.proofs.{Options.with_rest, Viewed.BesideSoFar}
+use Rattle.star_plan.{specs.Faults.item_fault, specs.Naming.aggregate_names, specs.Resolved.items_from, proofs.Options.with_rest, proofs.Viewed.BesideSoFar}
 use Rattle.star_plan.proofs.select.show_items.Given as goal
 
 abbrev pub invariant-loop-item : goal.invariant-loop-item

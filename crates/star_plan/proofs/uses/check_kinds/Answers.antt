@@ -1,6 +1,5 @@
 use Rattle.std.proofs.Common.{arith}
-use Rattle.star_plan.specs.{Faults.use_kind_fault, Private.Found.use_view}
-use Rattle.star_plan.proofs.Viewed.{answer_of_copy}
+use Rattle.star_plan.{specs.Faults.use_kind_fault, specs.Private.Found.use_view, proofs.Viewed.answer_of_copy}
 use Rattle.star_plan.proofs.uses.check_kinds.Goals as goal
 
 pub returns-in_err-kind_fault : goal.returns-in_err-kind_fault

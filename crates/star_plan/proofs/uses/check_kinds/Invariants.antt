@@ -1,5 +1,4 @@
-use Rattle.star_plan.specs.{Faults.use_kind_fault, Private.Found.use_view}
-use Rattle.star_plan.proofs.Viewed.{AnswerSoFar}
+use Rattle.star_plan.{specs.Faults.use_kind_fault, specs.Private.Found.use_view, proofs.Viewed.AnswerSoFar}
 use Rattle.star_plan.proofs.uses.check_kinds.Given as goal
 
 abbrev pub invariant-loop-named : goal.invariant-loop-named

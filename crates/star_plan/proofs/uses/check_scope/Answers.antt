@@ -1,7 +1,6 @@
 use Rattle.std.proofs.Common.{arith, map}
 use Rattle.star_query.specs.Views.{name_view}
-use Rattle.star_plan.specs.{Faults.scope_fault, Private.Found.use_view}
-use Rattle.star_plan.proofs.Viewed.{answer_of_copy}
+use Rattle.star_plan.{specs.Faults.scope_fault, specs.Private.Found.use_view, proofs.Viewed.answer_of_copy}
 use Rattle.star_plan.proofs.uses.check_scope.Goals as goal
 
 pub returns-in_err-scope_fault : goal.returns-in_err-scope_fault

@@ -1,6 +1,5 @@
 use Rattle.std.proofs.Common.{◌≡◌, ◌∙◌, ◌↔◌, IsTrue, subst}
-use Rattle.star_query.specs.Symbols.{spelling, lowered}
-use Rattle.star_query.proofs.Lexing.{spelled}
+use Rattle.star_query.{specs.Symbols.{spelling, lowered}, proofs.Lexing.spelled}
 use Rattle.star_query.proofs.lexer.is_spelled.Goals as goal
 
 pub returns : goal.returns

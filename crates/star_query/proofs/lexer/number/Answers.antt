@@ -15,11 +15,11 @@ returns-in_default c =
     record {
       same = elim c.in_default.branch [
         | in_default-via-in-Some+then-width-le-MAX_DIGITS+else-not-begins_with_letter w ↦ sym
-            (number_followed c.args.place c.args.text.now (search rules))
+            (number_followed c.args.offset c.args.text.now (search rules))
         | in_default-via-in-Some+else-width-le-MAX_DIGITS w ↦ sym
-            (number_long c.args.place c.args.text.now (search rules))
+            (number_long c.args.offset c.args.text.now (search rules))
         | in_default-via-in_default w ↦ sym
-            (number_too_long c.args.place c.args.text.now c.requires
+            (number_too_long c.args.offset c.args.text.now c.requires
             (rw (c.split_at.ensures.front, c.digits_width-width.ensures.width) at
             (sym c.numeral_value.ensures.value ∙ w.in_default.is)))
       ];

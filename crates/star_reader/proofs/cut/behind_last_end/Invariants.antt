@@ -1,6 +1,5 @@
 -- No line end from here on.
-use Rattle.std.proofs.Common.{◌≡◌, ◌≤◌, drop, length, true}
-use Rattle.std.specs.List.{list_all}
+use Rattle.std.{proofs.Common.{◌≡◌, ◌≤◌, drop, length, true}, specs.List.list_all}
 use Rattle.star_reader.specs.Carried.{is_inner}
 use Rattle.star_reader.proofs.cut.behind_last_end.Given as goal
 

@@ -1,8 +1,7 @@
 -- No line end so far.
-use Rattle.std.proofs.Common.{◌≡◌, take, true}
-use Rattle.std.specs.List.{list_all}
+use Rattle.std.{proofs.Common.{◌≡◌, take, true}, specs.List.list_all}
 use Rattle.star_reader.specs.Carried.{is_inner}
 use Rattle.star_reader.proofs.cut.first_end.Given as goal
 
-abbrev pub invariant-loop-place : goal.invariant-loop-place
-invariant-loop-place l = list_all is_inner (take l.place l.piece) ≡ true
+abbrev pub invariant-loop-index : goal.invariant-loop-index
+invariant-loop-index l = list_all is_inner (take l.index l.piece) ≡ true

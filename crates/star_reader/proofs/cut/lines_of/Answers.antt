@@ -1,4 +1,4 @@
-use Rattle.star_reader.proofs.CutPlaces.{cut_is}
+use Rattle.star_reader.proofs.CutIndexes.{cut_is}
 use Rattle.star_reader.proofs.cut.lines_of.Goals as goal
 
 pub returns : goal.returns

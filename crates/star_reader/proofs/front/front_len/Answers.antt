@@ -1,6 +1,5 @@
 use Rattle.std.proofs.Common.{◌≡◌, arith, get_or, length, inl, inr}
-use Rattle.star_reader.proofs.Fronts.{one_more, other_plain}
-use Rattle.star_reader.specs.Private.Fronts.{is_plain}
+use Rattle.star_reader.{proofs.Fronts.{one_more, other_plain}, specs.Private.Fronts.is_plain}
 use Rattle.star_reader.proofs.front.front_len.Goals as goal
 
 pub returns-then-text-count-eq124 : goal.returns-then-text-count-eq124

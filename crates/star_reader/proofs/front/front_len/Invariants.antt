@@ -1,6 +1,5 @@
 -- No bar so far.
-use Rattle.std.proofs.Common.{◌≡◌, take, true}
-use Rattle.std.specs.List.{list_all}
+use Rattle.std.{proofs.Common.{◌≡◌, take, true}, specs.List.list_all}
 use Rattle.star_reader.specs.Private.Fronts.{is_plain}
 use Rattle.star_reader.proofs.front.front_len.Given as goal
 

@@ -1,5 +1,4 @@
-use Rattle.std.proofs.Common.{◌≡◌, ◌+◌, ◌-◌, ◌*◌, ◌/◌, ◌^◌, ◌<◌, ◌≤◌, ◌∙◌, ℕ, zero, suc, Bool, true, false, List, [], ◌∷◌, ap, arith, cond, div-one, drop, length, length-drop, map, mul_comm, pow-suc, sym, take}
-use Rattle.std.proofs.{lemmas.List.drop-drop, lemmas.List.take_all, lemmas.Simd.leading_from_mask_l, lemmas.Simd.trailing_mask_l}
+use Rattle.std.proofs.{Common.{◌≡◌, ◌+◌, ◌-◌, ◌*◌, ◌/◌, ◌^◌, ◌<◌, ◌≤◌, ◌∙◌, ℕ, zero, suc, Bool, true, false, List, [], ◌∷◌, ap, arith, cond, div-one, drop, length, length-drop, map, mul_comm, pow-suc, sym, take}, lemmas.List.{drop-drop, take_all}, lemmas.Simd.{leading_from_mask_l, trailing_mask_l}}
 use native.Mathlib.Nat.{div-div-eq-div-mul, zero-div}
 use lib.Count.{count_trailing_zeros}
 use lib.Lanes.{mask_l}

@@ -1,5 +1,4 @@
-use Rattle.std.proofs.Common.{◌<◌, ◌^◌, ◌∙◌, FitsSigned, ap, arith, pos, rules, take, to_z-of_z, w64}
-use Rattle.std.proofs.{lemmas.Int.to_z_pos}
+use Rattle.std.proofs.{Common.{◌<◌, ◌^◌, ◌∙◌, FitsSigned, ap, arith, pos, rules, take, to_z-of_z, w64}, lemmas.Int.to_z_pos}
 use Rattle.star_reader.proofs.{FrontNumbers.no_number, FrontNumbers.numeral_plain, FrontNumbers.one_number, FrontTexts.one_front}
 use Rattle.star_reader.proofs.front.number_front.Goals as goal
 

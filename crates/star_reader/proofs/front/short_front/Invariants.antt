@@ -1,6 +1,5 @@
 -- The digits so far and their number.
-use Rattle.std.proofs.Common.{◌≡◌, ◌<◌, ◌^◌, take, true}
-use Rattle.std.specs.{Char.is_ascii_digit, List.list_all, Str.Parse.digits_value}
+use Rattle.std.{proofs.Common.{◌≡◌, ◌<◌, ◌^◌, take, true}, specs.Char.is_ascii_digit, specs.List.list_all, specs.Str.Parse.digits_value}
 use Rattle.star_reader.proofs.front.short_front.Given as goal
 
 abbrev pub invariant-loop-count : goal.invariant-loop-count

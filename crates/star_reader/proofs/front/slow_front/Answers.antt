@@ -1,9 +1,6 @@
-use Rattle.std.proofs.Common.{◌≡◌, ◌<◌, arith, get_or, length, inr, ℕ, true, false, rules}
-use Rattle.std.proofs.{lemmas.Bool.and_right}
+use Rattle.std.proofs.{Common.{◌≡◌, ◌<◌, arith, get_or, length, inr, ℕ, true, false, rules}, lemmas.Bool.and_right}
 use Rattle.star_common.specs.Printable.{is_printable}
-use Rattle.star_reader.specs.Private.Fronts.{is_plain}
-use Rattle.star_reader.proofs.FrontTexts.{above_tilde, bad_byte, below_space, printable_byte, short_front}
-use Rattle.star_reader.proofs.{Fronts.one_more, Fronts.other_plain, front.slow_front.Goals.then-byte-lt32-via-then-byte-lt32, front.slow_front.Goals.then-byte-lt32-via-else-byte-lt32+then-byte-gt126}
+use Rattle.star_reader.{specs.Private.Fronts.is_plain, proofs.FrontTexts.{above_tilde, bad_byte, below_space, printable_byte, short_front}, proofs.Fronts.{one_more, other_plain}, proofs.front.slow_front.Goals.{then-byte-lt32-via-then-byte-lt32, then-byte-lt32-via-else-byte-lt32+then-byte-gt126}}
 use Rattle.star_reader.proofs.front.slow_front.Goals as goal
 
 pub returns-then-byte-eq124 : goal.returns-then-byte-eq124

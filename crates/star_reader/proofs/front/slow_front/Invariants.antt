@@ -1,6 +1,5 @@
 -- No bar so far, and all printable.
-use Rattle.std.proofs.Common.{◌≡◌, take, true}
-use Rattle.std.specs.List.{list_all}
+use Rattle.std.{proofs.Common.{◌≡◌, take, true}, specs.List.list_all}
 use Rattle.star_common.specs.Printable.{is_printable}
 use Rattle.star_reader.specs.Private.Fronts.{is_plain}
 use Rattle.star_reader.proofs.front.slow_front.Given as goal

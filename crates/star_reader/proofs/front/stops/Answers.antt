@@ -1,7 +1,4 @@
-use Rattle.std.proofs.Common.{◌≡◌, ◌≤◌, ◌%◌, ◌^◌, ◌∙◌, ℕ, Bool, true, List, [], ◌∷◌, Fits, ap, ap₂, arith, cond, leb, length, map, refl, w8}
-use Rattle.std.proofs.lemmas.Bool.{agree_below, agree_below_at}
-use Rattle.std.proofs.lemmas.List.{length-map}
-use Rattle.std.proofs.lemmas.Simd.{mask_l-mod, splat_is_map, zip2_of_maps, zip2_splat}
+use Rattle.std.proofs.{Common.{◌≡◌, ◌≤◌, ◌%◌, ◌^◌, ◌∙◌, ℕ, Bool, true, List, [], ◌∷◌, Fits, ap, ap₂, arith, cond, leb, length, map, refl, w8}, lemmas.Bool.{agree_below, agree_below_at}, lemmas.List.length-map, lemmas.Simd.{mask_l-mod, splat_is_map, zip2_of_maps, zip2_splat}}
 use lib.Bits.{bit_or}
 use lib.Lanes.{Each1, mask_l, top}
 use Rattle.star_reader.specs.Private.Fronts.{is_stop}

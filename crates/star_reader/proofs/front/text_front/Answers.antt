@@ -1,9 +1,5 @@
-use Rattle.std.proofs.Common.{◌≡◌, ◌<◌, ◌≤◌, ◌∙◌, ap, arith, inl, inr, length, not, sym}
-use Rattle.std.proofs.{lemmas.List.Sums.prefix_len-le-length, lemmas.List.take_all}
-use Rattle.std.specs.List.{prefix_len}
-use Rattle.star_reader.specs.Private.Fronts.{is_stop}
-use Rattle.star_reader.proofs.FrontTexts.{near_bytes, short_front}
-use Rattle.star_reader.proofs.front.text_front.Goals.{then-count-text-via-then-count-text, then-count-text-via-else-count-text+then-text-count-eq124-2}
+use Rattle.std.{proofs.Common.{◌≡◌, ◌<◌, ◌≤◌, ◌∙◌, ap, arith, inl, inr, length, not, sym}, proofs.lemmas.List.Sums.prefix_len-le-length, proofs.lemmas.List.take_all, specs.List.prefix_len}
+use Rattle.star_reader.{specs.Private.Fronts.is_stop, proofs.FrontTexts.{near_bytes, short_front}, proofs.front.text_front.Goals.{then-count-text-via-then-count-text, then-count-text-via-else-count-text+then-text-count-eq124-2}}
 use Rattle.star_reader.proofs.front.text_front.Goals as goal
 
 pub returns-then-text-count-eq124 : goal.returns-then-text-count-eq124

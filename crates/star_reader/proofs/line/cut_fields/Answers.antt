@@ -1,6 +1,5 @@
-use Rattle.std.proofs.Common.{◌≡◌, ◌+◌, ◌-◌, ◌∙◌, ◌∷◌, [], ℕ, append_assoc, arith, refl, sym}
+use Rattle.std.proofs.{Common.{◌≡◌, ◌+◌, ◌-◌, ◌∙◌, ◌∷◌, [], ℕ, append_assoc, arith, refl, sym}, lemmas.List.append-nil}
 use Rattle.csv.specs.Records.{fields_of as fields_read}
-use Rattle.std.proofs.lemmas.List.{append-nil}
 use Rattle.star_reader.proofs.Fronts.{next_left, none_left, start_left}
 use Rattle.star_reader.proofs.line.cut_fields.Goals as goal
 

@@ -1,7 +1,6 @@
 use Rattle.std.proofs.Common.{map}
 use Rattle.star_schema.specs.Records.{records_of}
-use Rattle.star_reader.specs.{Columns.first_rows, Columns.values, Private.Lines.IsBetween}
-use Rattle.star_reader.proofs.{Cuts.begun_plain, TableSteps.matched, TableSteps.no_mark, TableSteps.start, TableSteps.whole}
+use Rattle.star_reader.{specs.Columns.{first_rows, values}, specs.Private.Lines.IsBetween, proofs.Cuts.begun_plain, proofs.TableSteps.{matched, no_mark, start, whole}}
 use Rattle.star_reader.proofs.records.read_lines.Goals as goal
 
 pub returns : goal.returns

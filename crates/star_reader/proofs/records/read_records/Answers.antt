@@ -1,7 +1,6 @@
 use Rattle.std.proofs.Common.{◌≡◌, []}
 use Rattle.csv.specs.Records.{fields_of as fields_read}
-use Rattle.star_reader.specs.Private.Lines.{TakesSome}
-use Rattle.star_reader.proofs.PassedOn.{passed_on}
+use Rattle.star_reader.{specs.Private.Lines.TakesSome, proofs.PassedOn.passed_on}
 use Rattle.star_reader.proofs.records.read_records.Goals as goal
 
 pub returns-then-not-branch : goal.returns-then-not-branch

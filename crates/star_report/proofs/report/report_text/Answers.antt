@@ -1,6 +1,5 @@
 use Rattle.std.proofs.Common.{◌≤◌, length, arith}
-use Rattle.star_report.specs.Report.{report_text, row_text}
-use Rattle.star_report.proofs.Parts.{all_parts}
+use Rattle.star_report.{specs.Report.{report_text, row_text}, proofs.Parts.all_parts}
 use Rattle.star_report.proofs.report.report_text.Goals as goal
 
 pub returns : goal.returns

@@ -1,5 +1,4 @@
-use Rattle.star_report.specs.Report.{line_text, row_text}
-use Rattle.star_report.proofs.Parts.{HasGrown}
+use Rattle.star_report.{specs.Report.{line_text, row_text}, proofs.Parts.HasGrown}
 use Rattle.star_report.proofs.report.report_text.Given as goal
 
 abbrev pub invariant-loop-number : goal.invariant-loop-number

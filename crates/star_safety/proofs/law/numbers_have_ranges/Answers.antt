@@ -3,7 +3,9 @@ use Rattle.star_safety.proofs.Common.{ColumnId, IsTaken, Known, KnownFlag, Known
 use Rattle.std.proofs.Common.{◌≡◌, Option, Some, None, refl}
 use Rattle.star_safety.proofs.law.numbers_have_ranges.Goals as goal
 
-ranged : (known : Option Known) → IsTaken is_number_kind (option_map known_kind known) → (range : Range) × (reach : Reach) × (origin : Option ColumnId) × (known ≡ Some (KnownNumber range reach origin))
+ranged : (known : Option Known) → IsTaken is_number_kind (option_map known_kind known)
+    → (range : Range) × (reach : Reach) × (origin : Option ColumnId)
+    × (known ≡ Some (KnownNumber range reach origin))
 ranged None h = absurd h
 ranged (Some (KnownNumber range reach origin)) h = (range, reach, origin, refl)
 ranged (Some (KnownText c)) h = let bad : ⊥ = cc in absurd bad

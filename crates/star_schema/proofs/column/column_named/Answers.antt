@@ -1,5 +1,4 @@
-use Rattle.star_schema.specs.{declared.column.TheConstants.COLUMNS, Schema.column_name}
-use Rattle.star_schema.proofs.NamesApart.{by_name, column_by_name}
+use Rattle.star_schema.{specs.declared.column.TheConstants.COLUMNS, specs.Schema.column_name, proofs.NamesApart.{by_name, column_by_name}}
 use Rattle.star_schema.proofs.column.column_named.Goals as goal
 
 pub returns-clause-exactly : goal.returns-clause-exactly

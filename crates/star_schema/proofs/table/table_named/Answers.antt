@@ -1,5 +1,4 @@
-use Rattle.star_schema.specs.{declared.table.TheConstants.TABLES, Schema.table_name}
-use Rattle.star_schema.proofs.NamesApart.{by_name, table_by_name}
+use Rattle.star_schema.{specs.declared.table.TheConstants.TABLES, specs.Schema.table_name, proofs.NamesApart.{by_name, table_by_name}}
 use Rattle.star_schema.proofs.table.table_named.Goals as goal
 
 pub returns-clause-exactly : goal.returns-clause-exactly

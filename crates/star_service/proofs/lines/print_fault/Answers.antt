@@ -1,7 +1,6 @@
 use Rattle.std.proofs.Common.{refl, inr, rules, subst}
 use Rattle.star_engine.specs.{declared.fault.EngineFault.TheVariants.OutOfMemory, Answered.change}
-use Rattle.star_service.specs.Lines.{IsTextPrinted}
-use Rattle.star_service.proofs.PrintingFaults.{memory_line}
+use Rattle.star_service.{specs.Lines.IsTextPrinted, proofs.PrintingFaults.memory_line}
 use Rattle.star_service.proofs.lines.print_fault.Goals as goal
 
 pub returns-in-Err : goal.returns-in-Err

@@ -1,6 +1,4 @@
-use Rattle.std.proofs.Common.{encode_utf8_all, ap, rules, length, drop, arith, ◌≡◌, ◌-◌}
-use Rattle.std.proofs.lemmas.List.{length-take, nil_from_length}
-use Rattle.std.specs.Char.Iter.{escape_rest}
+use Rattle.std.{proofs.Common.{encode_utf8_all, ap, rules, length, drop, arith, ◌≡◌, ◌-◌}, proofs.lemmas.List.{length-take, nil_from_length}, specs.Char.Iter.escape_rest}
 use Rattle.star_service.proofs.NameLemmas.{all_written, one_more}
 use Rattle.star_service.proofs.names.write_escape.Goals as goal
 

@@ -1,5 +1,4 @@
-use Rattle.std.proofs.Common.{◌≤◌, encode_utf8_all}
-use Rattle.std.specs.{Fmt.IsPlainFormatter, Char.Iter.escape_rest, Char.Iter.escape_end}
+use Rattle.std.{proofs.Common.{◌≤◌, encode_utf8_all}, specs.Fmt.IsPlainFormatter, specs.Char.Iter.{escape_rest, escape_end}}
 use Rattle.star_service.proofs.NameLemmas.{IsWrittenUpTo}
 use Rattle.star_service.proofs.names.write_escape.Given as goal
 

@@ -1,8 +1,6 @@
-use Rattle.std.proofs.{Common.◌∙◌, Common.ap, lemmas.Result.err_from_is_err_and}
-use Rattle.std.specs.Prelude.{string_bytes}
+use Rattle.std.{proofs.Common.{◌∙◌, ap}, proofs.lemmas.Result.err_from_is_err_and, specs.Prelude.string_bytes}
 use Rattle.star_engine.specs.Answered.{change}
-use Rattle.star_service.specs.Reports.{named_line}
-use Rattle.star_service.proofs.ReportLemmas.{forecast_halted}
+use Rattle.star_service.{specs.Reports.named_line, proofs.ReportLemmas.forecast_halted}
 use Rattle.star_service.proofs.reports.forecast_job.Goals as goal
 
 pub returns-in_err-write_line-in-Ok : goal.returns-in_err-write_line-in-Ok

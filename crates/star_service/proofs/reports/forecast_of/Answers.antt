@@ -1,5 +1,4 @@
-use Rattle.star_engine.specs.{QuoteTexts.IsQuoteErrorOver, QuoteTexts.is_program_file, RunTexts.IsForecastErrorOver}
-use Rattle.star_engine.proofs.{QueryFaults.or_memory, RunTextLemmas.unread}
+use Rattle.star_engine.{specs.QuoteTexts.{IsQuoteErrorOver, is_program_file}, specs.RunTexts.IsForecastErrorOver, proofs.QueryFaults.or_memory, proofs.RunTextLemmas.unread}
 use Rattle.star_service.proofs.reports.forecast_of.Goals as goal
 
 pub returns-in-Ok : goal.returns-in-Ok

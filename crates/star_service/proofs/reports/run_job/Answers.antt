@@ -1,7 +1,6 @@
 use Rattle.std.proofs.lemmas.Result.{err_from_is_err_and}
 use Rattle.star_engine.specs.{Answered.change, RunTexts.run_text_of}
-use Rattle.star_service.specs.ReportSinks.{sink_change}
-use Rattle.star_service.proofs.ReportLemmas.{stored_none, stored_run, stored_halted, refused_delivered}
+use Rattle.star_service.{specs.ReportSinks.sink_change, proofs.ReportLemmas.{stored_none, stored_run, stored_halted, refused_delivered}}
 use Rattle.star_service.proofs.reports.run_job.Goals as goal
 
 pub returns-in_err-store_report-in-Ok : goal.returns-in_err-store_report-in-Ok

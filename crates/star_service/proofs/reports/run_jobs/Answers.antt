@@ -1,7 +1,6 @@
 use Rattle.std.proofs.lemmas.Result.{err_from_is_err_and}
 use Rattle.star_engine.specs.Answered.{change}
-use Rattle.star_service.specs.ReportSinks.{sink_change}
-use Rattle.star_service.proofs.ReportLemmas.{delivered_next, delivery_halted}
+use Rattle.star_service.{specs.ReportSinks.sink_change, proofs.ReportLemmas.{delivered_next, delivery_halted}}
 use Rattle.star_service.proofs.reports.run_jobs.Goals as goal
 
 pub loop-job-preserved : goal.loop-job-preserved

@@ -1,6 +1,5 @@
 use Rattle.std.proofs.{Common.false, Common.refl, lemmas.Result.err_from_is_err_and}
-use Rattle.star_engine.specs.{Answered.change, Queries.IsQueryError, Queries.IsQueryQuoteOver, Queries.IsQueryRunErrorOver, Queries.IsQueryRunOver}
-use Rattle.star_engine.proofs.{Noting.noted_stopped, RunTextLemmas.unread}
+use Rattle.star_engine.{specs.Answered.change, specs.Queries.{IsQueryError, IsQueryQuoteOver, IsQueryRunErrorOver, IsQueryRunOver}, proofs.Noting.noted_stopped, proofs.RunTextLemmas.unread}
 use Rattle.star_service.proofs.sessions.answer_query.Goals as goal
 
 pub returns-in_err-question : goal.returns-in_err-question

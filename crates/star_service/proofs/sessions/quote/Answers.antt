@@ -1,5 +1,4 @@
-use Rattle.star_engine.specs.{Answered.change, QuoteTexts.IsQuoteErrorOver, QuoteTexts.IsQuoteTextOver, QuoteTexts.is_program_file}
-use Rattle.star_engine.proofs.Loaded.{answered_as}
+use Rattle.star_engine.{specs.Answered.change, specs.QuoteTexts.{IsQuoteErrorOver, IsQuoteTextOver, is_program_file}, proofs.Loaded.answered_as}
 use Rattle.star_service.proofs.sessions.quote.Goals as goal
 
 pub returns : goal.returns

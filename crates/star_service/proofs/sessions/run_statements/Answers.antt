@@ -1,9 +1,7 @@
-use Rattle.std.proofs.Common.{◌≡◌, true, false, refl, rules, subst}
-use Rattle.std.proofs.lemmas.Result.{err_from_is_err_and}
+use Rattle.std.proofs.{Common.{◌≡◌, true, false, refl, rules, subst}, lemmas.Result.err_from_is_err_and}
 use Rattle.star_engine.specs.Answered.{change}
 use Rattle.star_statements.specs.Sources.{has_failed, reader_of}
-use Rattle.star_service.specs.Private.Turns.{IsStatementAnswered}
-use Rattle.star_service.proofs.RunningStatements.{begins, comes_to_its_end, goes_on, is_stopped}
+use Rattle.star_service.{specs.Private.Turns.IsStatementAnswered, proofs.RunningStatements.{begins, comes_to_its_end, goes_on, is_stopped}}
 use Rattle.star_service.proofs.sessions.run_statements.Goals as goal
 
 pub statements-init : goal.statements-init

@@ -1,8 +1,6 @@
-use Rattle.star_statements.specs.Blanks.{without_blanks}
-use Rattle.star_statements.proofs.BlankLemmas.{no_blank, past_blank}
+use Rattle.star_statements.{specs.Blanks.without_blanks, proofs.BlankLemmas.{no_blank, past_blank}}
 use Rattle.star_statements.proofs.blanks.without_blanks.Goals as goal
-use Rattle.std.proofs.Common.{arith}
-use Rattle.std.proofs.lemmas.Grind.{common_steps}
+use Rattle.std.proofs.{Common.arith, lemmas.Grind.common_steps}
 
 pub blanks-preserved : goal.blanks-preserved
 blanks-preserved c = grind (arith, past_blank)

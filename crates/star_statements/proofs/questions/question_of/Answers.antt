@@ -1,5 +1,4 @@
-use Rattle.std.proofs.Common.{arith, sym}
-use Rattle.std.proofs.lemmas.Bool.{eqb-true, eqb-false}
+use Rattle.std.proofs.{Common.{arith, sym}, lemmas.Bool.{eqb-true, eqb-false}}
 use Rattle.star_statements.proofs.QuestionLemmas.{explained, nothing, queried, quoted, too_long}
 use Rattle.star_statements.proofs.questions.question_of.Goals as goal
 

@@ -1,8 +1,5 @@
-use Rattle.std.proofs.Common.{◌≡◌, ◌∙◌, ◌++◌, ◌+◌, ◌∷◌, [], true, false, Ok, arith, ap, inr, refl, rules, subst, sym}
-use Rattle.std.proofs.{lemmas.List.length-append}
-use Rattle.std.specs.Io.KnownBytes.{Consumes}
-use Rattle.star_statements.specs.{Sources.IsStatementRead, Sources.reader_of, Private.Drafts.IsDraft, Private.Drafts.closes_statement, Private.Drafts.ends_behind}
-use Rattle.star_statements.proofs.DraftLemmas.{draft_begins, draft_ends, draft_goes_on, draft_is_last, kept-more, length-kept, of_some}
+use Rattle.std.{proofs.Common.{◌≡◌, ◌∙◌, ◌++◌, ◌+◌, ◌∷◌, [], true, false, Ok, arith, ap, inr, refl, rules, subst, sym}, proofs.lemmas.List.length-append, specs.Io.KnownBytes.Consumes}
+use Rattle.star_statements.{specs.Sources.{IsStatementRead, reader_of}, specs.Private.Drafts.{IsDraft, closes_statement, ends_behind}, proofs.DraftLemmas.{draft_begins, draft_ends, draft_goes_on, draft_is_last, kept-more, length-kept, of_some}}
 use Rattle.star_statements.proofs.reading.read_statement.Goals as goal
 
 pub bytes-init : goal.bytes-init

@@ -1,7 +1,6 @@
 use Rattle.std.proofs.{Common.arith, Common.refl, Common.subst, lemmas.Result.err_from_is_err_and}
-use Rattle.star_trial.specs.{Private.Acts.IsActed, Private.Views.registers_view}
+use Rattle.star_trial.{specs.Private.Acts.IsActed, specs.Private.Views.registers_view, proofs.Checked.{acts, operands_fine, traps}}
 use Rattle.star_world.specs.WorldOf.{world_of}
-use Rattle.star_trial.proofs.Checked.{acts, operands_fine, traps}
 use Rattle.star_trial.proofs.act.act.Goals as goal
 
 pub returns-in_err-check : goal.returns-in_err-check

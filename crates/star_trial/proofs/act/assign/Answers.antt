@@ -1,8 +1,7 @@
 use Rattle.std.proofs.Common.{ap, sym, subst, ◌∙◌}
 use Rattle.star_program.specs.Effects.{GoesOn}
 use Rattle.star_trial.specs.Private.Views.{registers_view}
-use Rattle.star_outcome.specs.Sound.{AreSound}
-use Rattle.star_outcome.proofs.Registers.{sound_set}
+use Rattle.star_outcome.{specs.Sound.AreSound, proofs.Registers.sound_set}
 use Rattle.star_trial.proofs.act.assign.Goals as goal
 
 pub returns : goal.returns

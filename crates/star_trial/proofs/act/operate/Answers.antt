@@ -1,9 +1,7 @@
-use Rattle.std.proofs.Common.{FitsSigned, ap, rules, subst, sym, to_z-of_z, w64, ◌∙◌}
-use Rattle.std.specs.Prelude.{unwrap_or}
+use Rattle.std.{proofs.Common.{FitsSigned, ap, rules, subst, sym, to_z-of_z, w64, ◌∙◌}, specs.Prelude.unwrap_or}
 use Rattle.star_program.specs.{declared.value.Value.TheVariants.Number, Faults.group_at, Private.Doing.assigns, Private.Doing.fitting, Puts.total_over}
-use Rattle.star_trial.specs.{Private.Acts.IsValueMade, Private.Views.registers_view}
+use Rattle.star_trial.{specs.Private.Acts.IsValueMade, specs.Private.Views.registers_view, proofs.Performed.{answer_made, read_made}}
 use Rattle.star_world.specs.WorldOf.{world_of}
-use Rattle.star_trial.proofs.Performed.{answer_made, read_made}
 use Rattle.star_trial.proofs.act.operate.Goals as goal
 
 pub returns-in-Find-clause-does : goal.returns-in-Find-clause-does

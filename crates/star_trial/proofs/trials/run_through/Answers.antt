@@ -1,10 +1,7 @@
-use Rattle.std.proofs.Common.{◌≡◌, ◌∙◌, ap, arith, rules, subst, false}
-use Rattle.std.proofs.{lemmas.Result.err_from_is_err_and}
-use Rattle.std.specs.Prelude.{nat_lt}
+use Rattle.std.{proofs.Common.{◌≡◌, ◌∙◌, ap, arith, rules, subst, false}, proofs.lemmas.Result.err_from_is_err_and, specs.Prelude.nat_lt}
 use Rattle.star_program.specs.{Effects.empty_state, Run.meaning, Values.no_registers}
-use Rattle.star_trial.specs.{Private.Views.registers_view, Trials.IsFaultOfEnd, Private.Walks.Finishes}
+use Rattle.star_trial.{specs.Private.Views.registers_view, specs.Trials.IsFaultOfEnd, specs.Private.Walks.Finishes, proofs.Registers.sound_nothing}
 use Rattle.star_world.specs.WorldOf.{world_of}
-use Rattle.star_trial.proofs.Registers.{sound_nothing}
 use Rattle.star_trial.proofs.trials.run_through.Goals as goal
 
 pub walk-requires-clause-ready : goal.walk-requires-clause-ready

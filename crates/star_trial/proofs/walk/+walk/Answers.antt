@@ -1,14 +1,8 @@
-use Rattle.std.proofs.Common.{◌≡◌, ◌≤◌, ◌<◌, ◌+◌, ◌-◌, ◌*◌, length, drop, sym, ap, subst, ◌∙◌, arith, refl}
-use Rattle.std.proofs.{lemmas.List.drop_all, lemmas.Result.err_from_is_err_and}
-use Rattle.std.specs.Prelude.{nat_lt, true}
+use Rattle.std.{proofs.Common.{◌≡◌, ◌≤◌, ◌<◌, ◌+◌, ◌-◌, ◌*◌, length, drop, sym, ap, subst, ◌∙◌, arith, refl}, proofs.lemmas.List.drop_all, proofs.lemmas.Result.err_from_is_err_and, specs.Prelude.{nat_lt, true}}
 use Rattle.star_schema.specs.Database.{rows_in}
-use Rattle.star_program.specs.{Code.code_size, Code.scan_depth, CodeOfSteps.code_of_steps, Run.visited, Values.Registers, Values.with_entry, declared.value.Value.TheVariants.Row}
-use Rattle.star_trial.specs.{Private.Views.registers_view, Trials.IsFaultOfEnd, Private.Walks.HasWorked, Private.Walks.IsEnd, Private.Walks.means, Private.Walks.means_at, Private.Runs.HasDone}
-use Rattle.star_outcome.specs.Sound.{AreSound}
-use Rattle.star_program.proofs.Steps.{next_act, next_scan}
-use Rattle.star_outcome.proofs.{Registers.sound_set, Turns.turn_done}
-use Rattle.star_trial.proofs.Turned.{act_follows, after_fault, begin_turn, body_deep, done_visited, gone_on, rest_deep, scan_follows, stop_fault, turn_ended, turns_fault, worked_act, worked_more}
-use Rattle.star_trial.proofs.{walk.+walk.Goals.walk-in-Act+in-Ok-GoesOn, walk.+walk.Goals.walk-in-Scan+in_ok-scan-in-Scan}
+use Rattle.star_program.{specs.Code.{code_size, scan_depth}, specs.CodeOfSteps.code_of_steps, specs.Run.visited, specs.Values.{Registers, with_entry}, specs.declared.value.Value.TheVariants.Row, proofs.Steps.{next_act, next_scan}}
+use Rattle.star_trial.{specs.Private.Views.registers_view, specs.Trials.IsFaultOfEnd, specs.Private.Walks.{HasWorked, IsEnd, means, means_at}, specs.Private.Runs.HasDone, proofs.Turned.{act_follows, after_fault, begin_turn, body_deep, done_visited, gone_on, rest_deep, scan_follows, stop_fault, turn_ended, turns_fault, worked_act, worked_more}, proofs.walk.+walk.Goals.{walk-in-Act+in-Ok-GoesOn, walk-in-Scan+in_ok-scan-in-Scan}}
+use Rattle.star_outcome.{specs.Sound.AreSound, proofs.Registers.sound_set, proofs.Turns.turn_done}
 use Rattle.star_trial.proofs.walk.+walk.Goals as goal
 
 pub turn-walk-requires : goal.turn-walk-requires
@@ -96,7 +90,7 @@ walk-returns-in-Ok-EndsTurn-clause-ends t c = λ s h.
     (c.in-Ok-EndsTurn.ensures.does at.0 at.1) in
     record {
       s = ends.s;
-      is = sym at.2 ∙ act_follows c.args.machine.now _ c.loop-step.place c.args.inside
+      is = sym at.2 ∙ act_follows c.args.machine.now _ c.loop-step.index c.args.inside
           (registers_view c.loop-step.registers) at.0 c.loop-step-test.true c.step-item.is
           c.in-Act.is ends.does;
       done = ends.done;
@@ -106,8 +100,8 @@ pub walk-returns-in-Err-clause-ends : goal.walk-returns-in-Err-clause-ends
 walk-returns-in-Err-clause-ends t c = λ s h.
     let at = c.loop-step.invariant.ends s h in
     subst (IsFaultOfEnd _) (sym c.stopped.ensures)
-    (stop_fault _ c.loop-step.place _ _ c.in-Err.stop (c.in-Err.ensures.does at.0 at.1)
-    (sym at.2 ∙ act_follows c.args.machine.now _ c.loop-step.place c.args.inside
+    (stop_fault _ c.loop-step.index _ _ c.in-Err.stop (c.in-Err.ensures.does at.0 at.1)
+    (sym at.2 ∙ act_follows c.args.machine.now _ c.loop-step.index c.args.inside
     (registers_view c.loop-step.registers) at.0 c.loop-step-test.true c.step-item.is c.in-Act.is
     refl))
 
@@ -148,7 +142,7 @@ walk-returns-in_err-scan-in-Scan-clause-ends t c = λ s h.
     let at = c.loop-step.invariant.ends s h in
     rw (p.1, p.2) (after_fault _ _ _ c.in_err-scan-in-Scan.field-0.0
     (c.in_err-scan-in-Scan.ensures.ends at.0 at.1)
-    (sym at.2 ∙ scan_follows c.args.machine.now _ c.loop-step.place c.args.inside
+    (sym at.2 ∙ scan_follows c.args.machine.now _ c.loop-step.index c.args.inside
     (registers_view c.loop-step.registers) at.0 c.loop-step-test.true c.step-item.is
     c.in-Scan.is refl))
 
@@ -169,9 +163,9 @@ walk-loop-step-preserved t c =
                       r goes.s) (sym w.run-is) goes.done,
                   (λ i. means c.args.machine.now
                       (code_of_steps (drop (c.loop-step.step-index + 1)
-                      c.as_slice-step-items.result.now)) (w.place-is i) c.args.inside
+                      c.as_slice-step-items.result.now)) (w.index-is i) c.args.inside
                       (registers_view (w.registers-is i)) goes.s)
-                      ∙ sym (act_follows c.args.machine.now _ c.loop-step.place c.args.inside
+                      ∙ sym (act_follows c.args.machine.now _ c.loop-step.index c.args.inside
                       (registers_view c.loop-step.registers) at.0 c.loop-step-test.true
                       c.step-item.is w.in-Act.is goes.does)
                       ∙ at.2,
@@ -179,12 +173,12 @@ walk-loop-step-preserved t c =
             sound = subst (λ xs. AreSound c.args.machine.now.catalogue.now (registers_view xs))
                 (sym w.registers-is) w.in-Ok-GoesOn.ensures.sound;
             worked = subst (λ r. HasWorked c.args.machine.now.most c.args.run.now r
-                (c.match-step.place - c.args.at)) (sym w.run-is)
+                (c.match-step.index - c.args.at)) (sym w.run-is)
                 (worked_act c.loop-step.invariant.worked w.act.ensures.work.visits
                 w.act.ensures.work.work (omega
-                (arith, w.place-is, c.loop-step.invariant.after)));
-            placed = omega (arith, left, c.loop-step.invariant.placed, w.place-is);
-            after = omega (arith, c.loop-step.invariant.after, w.place-is);
+                (arith, w.index-is, c.loop-step.invariant.after)));
+            placed = omega (arith, left, c.loop-step.invariant.placed, w.index-is);
+            after = omega (arith, c.loop-step.invariant.after, w.index-is);
             deep = subst (λ l. scan_depth
                 (code_of_steps (drop (c.loop-step.step-index + 1) c.as_slice-step-items.result.now))
                 * c.args.machine.now.parts.now.registers ≤ l) (sym c.match-step.auto.frames)
@@ -200,21 +194,21 @@ walk-loop-step-preserved t c =
             ends = λ s h.
                 let at = c.loop-step.invariant.ends s h in
                 let done = w.in_ok-scan-in-Scan.ensures.ends at.0 at.1 in
-                let place : c.loop-step.place + (1 + w.size.result)
-                ≡ c.loop-step.place + 1 + code_size w.in-Scan.body =
+                let index : c.loop-step.index + (1 + w.size.result)
+                ≡ c.loop-step.index + 1 + code_size w.in-Scan.body =
                 omega (arith, w.size.ensures) in (
                   done.s,
                   subst (λ r. HasDone c.args.machine.now.catalogue.now c.args.machine.now.parts.now
                       r done.s) (sym w.run-is) done.done,
                   (λ i. means c.args.machine.now
                       (code_of_steps (drop (c.loop-step.step-index + 1)
-                      c.as_slice-step-items.result.now)) (w.place-is i) c.args.inside
+                      c.as_slice-step-items.result.now)) (w.index-is i) c.args.inside
                       (registers_view (w.registers-is i)) done.s)
                       ∙ ap (λ n. means c.args.machine.now
                       (code_of_steps (drop (c.loop-step.step-index + 1)
                       c.as_slice-step-items.result.now)) n c.args.inside
-                      (registers_view c.loop-step.registers) done.s) place
-                      ∙ sym (scan_follows c.args.machine.now _ c.loop-step.place c.args.inside
+                      (registers_view c.loop-step.registers) done.s) index
+                      ∙ sym (scan_follows c.args.machine.now _ c.loop-step.index c.args.inside
                       (registers_view c.loop-step.registers) at.0 c.loop-step-test.true
                       c.step-item.is w.in-Scan.is done.is)
                       ∙ at.2,
@@ -222,11 +216,11 @@ walk-loop-step-preserved t c =
             sound = subst (λ xs. AreSound c.args.machine.now.catalogue.now (registers_view xs))
                 (sym w.registers-is) c.loop-step.invariant.sound;
             worked = subst (λ r. HasWorked c.args.machine.now.most c.args.run.now r
-                (c.match-step.place - c.args.at)) (sym w.run-is)
+                (c.match-step.index - c.args.at)) (sym w.run-is)
                 (worked_more c.loop-step.invariant.worked w.in_ok-scan-in-Scan.ensures.worked
-                (omega (arith, w.place-is, c.loop-step.invariant.after)));
-            placed = omega (arith, left, c.loop-step.invariant.placed, w.place-is, w.size.ensures);
-            after = omega (arith, c.loop-step.invariant.after, w.place-is);
+                (omega (arith, w.index-is, c.loop-step.invariant.after)));
+            placed = omega (arith, left, c.loop-step.invariant.placed, w.index-is, w.size.ensures);
+            after = omega (arith, c.loop-step.invariant.after, w.index-is);
             deep = subst (λ l. scan_depth
                 (code_of_steps (drop (c.loop-step.step-index + 1) c.as_slice-step-items.result.now))
                 * c.args.machine.now.parts.now.registers ≤ l) (sym c.match-step.auto.frames)
@@ -245,7 +239,7 @@ walk-returns-clause-ends t c = λ s h.
     record {
       s = at.0;
       is = sym at.2 ∙ ap (λ k.
-          means c.args.machine.now k c.loop-step.place c.args.inside
+          means c.args.machine.now k c.loop-step.index c.args.inside
           (registers_view c.loop-step.registers) at.0)
           (ap code_of_steps (drop_all c.loop-step.step-index c.as_slice-step-items.result.now
           c.loop-step-test.false));

@@ -1,5 +1,4 @@
-use Rattle.std.proofs.Common.{◌≡◌, ◌≤◌, ◌+◌, ◌-◌, ◌*◌, length, drop}
-use Rattle.std.specs.Prelude.{nat_lt}
+use Rattle.std.{proofs.Common.{◌≡◌, ◌≤◌, ◌+◌, ◌-◌, ◌*◌, length, drop}, specs.Prelude.nat_lt}
 use Rattle.star_schema.specs.Database.{rows_in}
 use Rattle.star_program.specs.{Code.code_size, Code.scan_depth, CodeOfSteps.code_of_steps, Effects.State, Run.turns, declared.value.Value.TheVariants.Row}
 use Rattle.star_trial.specs.{Private.Runs.HasDone, Private.Views.registers_view, Private.Walks.HasWorked, Private.Walks.means, Private.Walks.means_at, Private.Walks.means_turns}
@@ -34,14 +33,14 @@ abbrev pub invariant-walk-loop-step : goal.invariant-walk-loop-step
 invariant-walk-loop-step l = record {
   ends : (s : State) → HasDone l.machine.catalogue.now l.machine.parts.now l.initial.run s
       → (now : State) × HasDone l.machine.catalogue.now l.machine.parts.now l.run now
-      × (means l.machine (code_of_steps (drop l.step-index l.step-items)) l.place l.inside
+      × (means l.machine (code_of_steps (drop l.step-index l.step-items)) l.index l.inside
       (registers_view l.registers) now
       ≡ means l.machine l.body l.at l.inside (registers_view l.initial.registers) s);
   sound : AreSound l.machine.catalogue.now (registers_view l.registers);
-  worked : HasWorked l.machine.most l.initial.run l.run (l.place - l.at);
-  placed : l.place + code_size (code_of_steps (drop l.step-index l.step-items))
+  worked : HasWorked l.machine.most l.initial.run l.run (l.index - l.at);
+  placed : l.index + code_size (code_of_steps (drop l.step-index l.step-items))
       ≡ l.at + code_size l.body;
-  after : l.at ≤ l.place;
+  after : l.at ≤ l.index;
   deep : scan_depth (code_of_steps (drop l.step-index l.step-items)) * l.machine.parts.now.registers
       ≤ length l.frames;
 }

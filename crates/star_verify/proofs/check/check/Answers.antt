@@ -34,5 +34,5 @@ pub returns-in-Some : goal.returns-in-Some
 returns-in-Some c = λ w facts.
     inr (within w c.args.limits.visits c.args.program.now c.args.facts.now facts
     c.quote-visits.result c.quote-visits.ensures _ c.parts-parts.ensures.same
-    (omega (arith, c.from.ensures, c.if-visits-from.false)) None (Some c.in-Some.place)
+    (omega (arith, c.from.ensures, c.if-visits-from.false)) None (Some c.in-Some.index)
     (c.in_ok-keys.ensures.first w facts).0 (sym c.misnamed_line.ensures ∙ c.in-Some.is))

@@ -1,6 +1,5 @@
 use Rattle.std.proofs.Common.{◌≡◌, ap, false, rules, subst, sym, ◌∙◌}
-use Rattle.star_verify.proofs.Common.{HasKeyShares, HasShares, at_first, flag_at, known_in, nothing_known, replicate}
-use Rattle.star_verify.proofs.Starting.{no_flags, no_key_shares, no_shares, nothing_in}
+use Rattle.star_verify.proofs.{Common.{HasKeyShares, HasShares, at_first, flag_at, known_in, nothing_known, replicate}, Starting.{no_flags, no_key_shares, no_shares, nothing_in}}
 use Rattle.star_verify.proofs.check.empty_state.Goals as goal
 
 pub returns-clause-kept : goal.returns-clause-kept

@@ -1,6 +1,5 @@
 use Rattle.std.proofs.Common.{ap, sym, ◌∙◌}
-use Rattle.star_verify.proofs.Common.{answer_known, bounds_of, known_view, option_map, range_of, reach_view, ◌*ℤ◌, ◌+ℤ◌, ◌-ℤ◌}
-use Rattle.star_verify.proofs.Overflows.{computed_is, overflow_as}
+use Rattle.star_verify.proofs.{Common.{answer_known, bounds_of, known_view, option_map, range_of, reach_view, ◌*ℤ◌, ◌+ℤ◌, ◌-ℤ◌}, Overflows.{computed_is, overflow_as}}
 use Rattle.star_verify.proofs.known.answer.Goals as goal
 
 pub returns-in-Add-clause-overflow : goal.returns-in-Add-clause-overflow

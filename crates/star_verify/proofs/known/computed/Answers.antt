@@ -1,6 +1,5 @@
 use Rattle.std.proofs.Common.{◌≡◌, Some, false, true, ap, subst, sym, ◌∙◌, refl}
-use Rattle.star_verify.proofs.Common.{Interval, IsOk, Overflow, Result, Wide, bounds_of, reach_view, reached}
-use Rattle.star_verify.proofs.Overflows.{fitting, leaving}
+use Rattle.star_verify.proofs.{Common.{Interval, IsOk, Overflow, Result, Wide, bounds_of, reach_view, reached}, Overflows.{fitting, leaving}}
 use Rattle.star_verify.proofs.known.computed.Goals as goal
 
 pub returns-in-Ok-clause-overflow : goal.returns-in-Ok-clause-overflow

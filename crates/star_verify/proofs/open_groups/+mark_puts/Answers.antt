@@ -1,6 +1,5 @@
 use Rattle.std.proofs.Common.{◌<◌, ◌+◌, false, length, drop, get_or, ap, sym, ◌∙◌, arith}
-use Rattle.star_verify.proofs.Common.{code_of_steps, code_puts_to, code_size, drop_all, next_act, next_scan, ◌||◌}
-use Rattle.star_verify.proofs.{Marks.marked_more, Marks.or_none, open_groups.+mark_puts.Goals.in-Act, open_groups.+mark_puts.Goals.in-Scan}
+use Rattle.star_verify.proofs.{Common.{code_of_steps, code_puts_to, code_size, drop_all, next_act, next_scan, ◌||◌}, Marks.{marked_more, or_none}, open_groups.+mark_puts.Goals.{in-Act, in-Scan}}
 use Rattle.star_verify.proofs.open_groups.+mark_puts.Goals as goal
 
 pub loop-step-preserved : goal.loop-step-preserved

@@ -1,6 +1,5 @@
 use Rattle.std.proofs.Common.{◌≡◌, ◌<◌, FitsSigned, w64, None, ap, length, to_z-of_z, rules, subst, sym, ◌∙◌}
-use Rattle.star_verify.proofs.Common.{Assign, IsMade, Operation, aggregate_in_group, group_at, known_view, only, operation_known, range_of, range_reason, reach_of, read_range}
-use Rattle.star_verify.proofs.{Made.made_as, Made.read_as, Overflows.fitting}
+use Rattle.star_verify.proofs.{Common.{Assign, IsMade, Operation, aggregate_in_group, group_at, known_view, only, operation_known, range_of, range_reason, reach_of, read_range}, Made.{made_as, read_as}, Overflows.fitting}
 use Rattle.star_safety.specs.Ranges as ranges
 use Rattle.star_verify.proofs.operations.make.Goals as goal
 

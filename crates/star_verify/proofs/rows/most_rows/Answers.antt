@@ -1,6 +1,5 @@
 use Rattle.std.proofs.Common.{◌≡◌, ◌∙◌, ◌+◌, ◌*◌, ◌<◌, ℕ, [], ap, arith, inl, length, refl, subst, sym, zero-add}
-use Rattle.star_verify.proofs.Common.{IsTally, IsTallyAt, Plain, all_key_shares, each_values, get_or_past, most_of, rows_of_groupings, slice_index_or, world_of}
-use Rattle.star_verify.proofs.RowLemmas.{all_rows, empty_list, one_row}
+use Rattle.star_verify.proofs.{Common.{IsTally, IsTallyAt, Plain, all_key_shares, each_values, get_or_past, most_of, rows_of_groupings, slice_index_or, world_of}, RowLemmas.{all_rows, empty_list, one_row}}
 use Rattle.star_verify.proofs.rows.most_rows.Goals as goal
 
 pub returns-in_default : goal.returns-in_default

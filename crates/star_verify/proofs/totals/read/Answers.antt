@@ -1,7 +1,6 @@
 -- The range of the total with its default fits 64 bits, or leaves them.
 use Rattle.std.proofs.Common.{◌≡◌, FitsSigned, refl, subst, sym, w64, to_z-of_z, rules, ◌∙◌}
-use Rattle.star_verify.proofs.Common.{FitsI64, false≢true, hull_with, only, overflow, reach_of, reach_view, read_range, wide_range_of}
-use Rattle.star_verify.proofs.Overflows.{fitting, leaving}
+use Rattle.star_verify.proofs.{Common.{FitsI64, false≢true, hull_with, only, overflow, reach_of, reach_view, read_range, wide_range_of}, Overflows.{fitting, leaving}}
 use Rattle.star_verify.proofs.totals.read.Goals as goal
 
 pub returns-in-Ok : goal.returns-in-Ok

@@ -1,8 +1,6 @@
 use Rattle.std.proofs.Common.{◌≡◌, ◌≤◌, ◌<◌, ◌+◌, ◌*◌, ◌^◌, drop, sym, ap, subst, ◌∙◌, arith}
-use Rattle.star_verify.proofs.Common.{code_of_steps, code_size, next_act, next_scan, scan_depth, size_of, turns_met}
-use Rattle.star_verify.proofs.Turns.{inner, outer, often, scan_turns, scan_sum, scan_bound}
+use Rattle.star_verify.proofs.{Common.{code_of_steps, code_size, next_act, next_scan, scan_depth, size_of, turns_met}, Turns.{inner, outer, often, scan_turns, scan_sum, scan_bound}, visits.+turns_met.Goals.{After-from, in-Act, in-Scan}}
 use Rattle.star_verify.proofs.visits.+turns_met.Goals as goal
-use Rattle.star_verify.proofs.visits.+turns_met.Goals.{After-from, in-Act, in-Scan}
 
 -- what is left begins with the scan, whose body is met no more often than the bound allows
 at_scan : (t : _) (c : After-from t)

@@ -1,5 +1,4 @@
-use Rattle.std.proofs.Common.{arith, refl, sym, ap, Some, ◌∙◌, ◌≤◌}
-use Rattle.std.specs.Str.Parse.{digits_value, without_leading_plus}
+use Rattle.std.{proofs.Common.{arith, refl, sym, ap, Some, ◌∙◌, ◌≤◌}, specs.Str.Parse.{digits_value, without_leading_plus}}
 use Rattle.star_words.proofs.Arguments.{limited, unlimited}
 use Rattle.star_words.proofs.request.limits_of.Goals as goal
 

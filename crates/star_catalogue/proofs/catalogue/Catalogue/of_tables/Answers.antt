@@ -1,8 +1,6 @@
 use Rattle.std.proofs.Common.{◌∙◌, ℕ, inr}
-use Rattle.star_schema.specs.{Loadable.IsSound, Loadable.database_of, Database.TableTexts}
-use Rattle.star_catalogue.specs.Private.{FiveTables.AreRowsOfTables, Referred.AreReferred}
-use Rattle.star_catalogue.proofs.{Loading.referred_sound, Loading.refused_key, SmallNumbers.bounds_small}
-use Rattle.star_schema.proofs.Typed.{rows_typed}
+use Rattle.star_schema.{specs.Loadable.{IsSound, database_of}, specs.Database.TableTexts, proofs.Typed.rows_typed}
+use Rattle.star_catalogue.{specs.Private.FiveTables.AreRowsOfTables, specs.Private.Referred.AreReferred, proofs.Loading.{referred_sound, refused_key}, proofs.SmallNumbers.bounds_small}
 use Rattle.star_catalogue.proofs.catalogue.Catalogue.of_tables.Goals as goal
 
 pub absent_key-requires : goal.absent_key-requires

@@ -1,7 +1,6 @@
 -- What was found at the load.
 use Rattle.std.proofs.Common.{◌∙◌, ap, sym, subst}
-use Rattle.star_catalogue.specs.{Private.Referred.rows_view, ReferredRows.AreReferredRows}
-use Rattle.star_catalogue.proofs.ReferredRows.{are_rows}
+use Rattle.star_catalogue.{specs.Private.Referred.rows_view, specs.ReferredRows.AreReferredRows, proofs.ReferredRows.are_rows}
 use Rattle.star_catalogue.proofs.catalogue.Catalogue.referred_rows.Goals as goal
 
 pub returns : goal.returns

@@ -1,7 +1,6 @@
 use Rattle.std.proofs.Common.{◌∙◌}
 use Rattle.star_reader.proofs.PassedOn.{passed_on}
-use Rattle.star_catalogue.specs.Pieces.{with_lineorder_text}
-use Rattle.star_catalogue.proofs.Loading.{lineorder_fault, lineorder_rows, refused_table}
+use Rattle.star_catalogue.{specs.Pieces.with_lineorder_text, proofs.Loading.{lineorder_fault, lineorder_rows, refused_table}}
 use Rattle.star_catalogue.proofs.catalogue.Catalogue.with_lineorder.Goals as goal
 
 pub returns-in_err-loaded-clause-refused : goal.returns-in_err-loaded-clause-refused

@@ -1,6 +1,5 @@
 use Rattle.std.proofs.Common.{◌∙◌, ap}
-use Rattle.star_reader.specs.Columns.{Table}
-use Rattle.star_reader.proofs.{Law.table_complete, PassedOn.passed_on}
+use Rattle.star_reader.{specs.Columns.Table, proofs.Law.table_complete, proofs.PassedOn.passed_on}
 use Rattle.star_catalogue.proofs.table.LoadedTable.finish.Goals as goal
 
 pub returns-in_err-loaded : goal.returns-in_err-loaded

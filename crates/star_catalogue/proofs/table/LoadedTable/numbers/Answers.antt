@@ -6,7 +6,7 @@ use Rattle.star_catalogue.proofs.table.LoadedTable.numbers.Goals as goal
 column : (c : After-index) → IsKeptAs c.self.inside c.args.column c.index.result.now
 column c =
     column_at c.args.column c.self.invariant (rw (← c.self.view_is) at c.requires.table)
-    c.place_of.ensures.place c.index.ensures
+    c.position_of.ensures.index c.index.ensures
 
 pub unreachable-requires : goal.unreachable-requires
 unreachable-requires c =

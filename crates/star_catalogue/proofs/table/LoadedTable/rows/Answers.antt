@@ -1,6 +1,5 @@
 use Rattle.std.proofs.Common.{map, sym}
-use Rattle.star_reader.proofs.RowLemmas.{length-first_rows}
-use Rattle.star_reader.specs.Columns.{values}
+use Rattle.star_reader.{proofs.RowLemmas.length-first_rows, specs.Columns.values}
 use Rattle.star_catalogue.specs.Private.Columns.{as_read}
 use Rattle.star_catalogue.proofs.table.LoadedTable.rows.Goals as goal
 

@@ -1,11 +1,8 @@
 use Rattle.std.proofs.Common.{◌≡◌, ◌∙◌, ℕ, List, None, ap, refl}
 use Rattle.star_common.specs.First.{first_answer}
-use Rattle.star_schema.specs.declared.table.TableId.TheVariants.{Customer, Date, Lineorder, Part, Supplier}
-use Rattle.star_schema.specs.{declared.table.TableId.TableId, Loadable.HasDistinctKeys, Tables.IsTable, Tables.Value, Tables.rows_of}
-use Rattle.star_reader.specs.Columns.{Table}
-use Rattle.star_reader.proofs.PassedOn.{passed_on}
-use Rattle.star_catalogue.specs.Load.{table_fault, tables_fault}
-use Rattle.star_catalogue.proofs.Loading.{of_each, table_none}
+use Rattle.star_schema.specs.{declared.table.TableId.TheVariants.{Customer, Date, Lineorder, Part, Supplier}, declared.table.TableId.TableId, Loadable.HasDistinctKeys, Tables.{IsTable, Value, rows_of}}
+use Rattle.star_reader.{specs.Columns.Table, proofs.PassedOn.passed_on}
+use Rattle.star_catalogue.{specs.Load.{table_fault, tables_fault}, proofs.Loading.{of_each, table_none}}
 use Rattle.star_catalogue.proofs.tables.Tables.finish.Goals as goal
 
 -- a table that was loaded has no fault

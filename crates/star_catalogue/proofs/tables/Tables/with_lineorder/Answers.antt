@@ -20,6 +20,9 @@ returns c = λ most text read.
     let lineorder = c.in_ok-lineorder.ensures most text read in
     let rows = ap (λ (x : Table). x.rows) c.into_inner.ensures ∙ lineorder.2 in (
       lineorder.0,
-      rw rows (ap (λ (d : Database). record d { lineorder = rows_of Lineorder text }) c.self.view_is),
+      rw rows (ap (λ (d : Database). record d {
+        lineorder =
+            rows_of Lineorder text;
+      }) c.self.view_is),
       lineorder.3,
     )

@@ -1,6 +1,5 @@
 use Rattle.std.proofs.Common.{refl, inr, rules}
-use Rattle.star_cli.specs.declared.failure.Failure.TheVariants.{OutOfMemory}
-use Rattle.star_cli.proofs.PrintingFailures.{memory_text}
+use Rattle.star_cli.{specs.declared.failure.Failure.TheVariants.OutOfMemory, proofs.PrintingFailures.memory_text}
 use Rattle.star_cli.proofs.failure.Failure.print.Goals as goal
 
 pub returns-in-Err : goal.returns-in-Err

@@ -1,7 +1,6 @@
 use Rattle.std.proofs.Common.{◌≡◌, ◌∙◌, ◌<◌, ◌≤◌, ◌+◌, ◌-◌, ◌/◌, [], List, ℕ, ap, sym, arith, true, false}
 use Rattle.star_schema.specs.Dictionary.{text_cmp}
-use Rattle.star_column.specs.Private.Edge.{is_after}
-use Rattle.star_column.proofs.{Edges.IsPartitionedBy-is_after, Fronts.test_at, Fronts.found_above, Fronts.found_below, Fronts.found_end}
+use Rattle.star_column.{specs.Private.Edge.is_after, proofs.Edges.IsPartitionedBy-is_after, proofs.Fronts.{test_at, found_above, found_below, found_end}}
 use Rattle.star_column.proofs.dictionary.Dictionary.edge.Goals as goal
 
 pub loop-low-preserved-then-is_after : goal.loop-low-preserved-then-is_after

@@ -1,7 +1,6 @@
 use Rattle.std.proofs.Common.{◌-◌}
 use Rattle.star_schema.specs.Dictionary.{text_cmp}
-use Rattle.star_column.specs.Private.Edge.{is_after}
-use Rattle.star_column.proofs.Fronts.{Found}
+use Rattle.star_column.{specs.Private.Edge.is_after, proofs.Fronts.Found}
 use Rattle.star_column.proofs.dictionary.Dictionary.edge.Given as goal
 
 abbrev pub invariant-loop-low : goal.invariant-loop-low

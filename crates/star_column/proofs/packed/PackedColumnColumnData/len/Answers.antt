@@ -1,6 +1,5 @@
 use Rattle.std.proofs.Common.{◌∙◌, sym}
-use Rattle.star_column.specs.Private.Words.{numbers_in}
-use Rattle.star_column.proofs.Differences.{length-above}
+use Rattle.star_column.{specs.Private.Words.numbers_in, proofs.Differences.length-above}
 use Rattle.star_column.proofs.packed.PackedColumnColumnData.len.Goals as goal
 
 pub returns : goal.returns

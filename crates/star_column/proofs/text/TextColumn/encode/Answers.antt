@@ -1,6 +1,5 @@
 use Rattle.std.proofs.Common.{length, refl}
-use Rattle.star_column.specs.Private.Words.{numbers_in, word_bits}
-use Rattle.star_column.proofs.Numbers.{coded_column, width_of_column}
+use Rattle.star_column.{specs.Private.Words.{numbers_in, word_bits}, proofs.Numbers.{coded_column, width_of_column}}
 use Rattle.star_column.proofs.text.TextColumn.encode.Goals as goal
 
 pub invariant_of-result : goal.invariant_of-result

@@ -1,6 +1,5 @@
 use Rattle.std.proofs.Common.{◌∙◌}
-use Rattle.star_column.specs.Private.Words.{numbers_in}
-use Rattle.star_column.proofs.Views.{above_codes}
+use Rattle.star_column.{specs.Private.Words.numbers_in, proofs.Views.above_codes}
 use Rattle.star_column.proofs.text.TextColumn.view.Goals as goal
 
 pub of-requires : goal.of-requires

@@ -1,6 +1,4 @@
-use Rattle.std.proofs.Common.{◌∙◌, ◌<◌, ◌^◌, ap, length, subst, sym}
-use Rattle.std.specs.List.{All}
-use Rattle.std.proofs.lemmas.List.{map-id}
+use Rattle.std.{proofs.Common.{◌∙◌, ◌<◌, ◌^◌, ap, length, subst, sym}, specs.List.All, proofs.lemmas.List.map-id}
 use Rattle.star_column.specs.Private.Words.{numbers_in}
 use Rattle.star_column.proofs.words.Words.gather_through.Goals as goal
 

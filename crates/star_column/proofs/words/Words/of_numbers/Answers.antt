@@ -1,5 +1,4 @@
-use Rattle.std.proofs.{Common.◌-ℤ◌, Common.arith, lemmas.Int.ints}
-use Rattle.std.specs.Int.RustNames.{unsigned_abs}
+use Rattle.std.{proofs.Common.{◌-ℤ◌, arith}, proofs.lemmas.Int.ints, specs.Int.RustNames.unsigned_abs}
 use Rattle.star_column.proofs.Differences.{width_8, width_16, width_32, width_64}
 use Rattle.star_column.proofs.words.Words.of_numbers.Goals as goal
 

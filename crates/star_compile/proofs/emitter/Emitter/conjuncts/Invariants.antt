@@ -1,6 +1,5 @@
 -- The conjuncts so far and those to come are the conjuncts.
-use Rattle.std.proofs.Common.{◌≡◌, drop, map, true}
-use Rattle.std.specs.List.{list_all}
+use Rattle.std.{proofs.Common.{◌≡◌, drop, map, true}, specs.List.list_all}
 use Rattle.star_plan.specs.{Views.row_condition_view, Spelled.condition_is_spelled}
 use Rattle.star_compile_laws.specs.Compiled.{conjuncts_code}
 use Rattle.star_compile.proofs.Emits.{Follows}

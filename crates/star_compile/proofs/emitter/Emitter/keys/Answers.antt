@@ -1,8 +1,7 @@
 use Rattle.std.proofs.{Common.arith, Common.drop, Common.refl, Common.drop_of_length-le, lemmas.Grind.common_steps, lemmas.List.drop_more}
 use Rattle.star_schema.specs.declared.column.ColumnId.TheVariants.{DDatekey}
 use Rattle.star_compile_laws.specs.Compiled.{keys_code}
-use Rattle.star_compile.specs.Private.Emitted.{keys_after}
-use Rattle.star_compile.proofs.Emits.{keys_behind, room_for_key, all_written}
+use Rattle.star_compile.{specs.Private.Emitted.keys_after, proofs.Emits.{keys_behind, room_for_key, all_written}}
 use Rattle.star_compile.proofs.emitter.Emitter.keys.Goals as goal
 
 pub column-requires : goal.column-requires

@@ -1,7 +1,6 @@
 -- The keys so far and those to come are the keys.
 use Rattle.std.proofs.Common.{drop, []}
-use Rattle.star_compile.specs.Private.Emitted.{keys_after}
-use Rattle.star_compile.proofs.Emits.{Follows}
+use Rattle.star_compile.{specs.Private.Emitted.keys_after, proofs.Emits.Follows}
 use Rattle.star_compile.proofs.emitter.Emitter.keys.Given as goal
 
 abbrev pub invariant-loop-column : goal.invariant-loop-column

@@ -1,9 +1,7 @@
-use Rattle.std.proofs.Common.{◌+◌, drop, ◌∷◌, refl, sym, ap, ◌∙◌, drop_of_length-le}
-use Rattle.std.proofs.{lemmas.List.drop_more}
+use Rattle.std.proofs.{Common.{◌+◌, drop, ◌∷◌, refl, sym, ap, ◌∙◌, drop_of_length-le}, lemmas.List.drop_more}
 use Rattle.star_plan.specs.Views.{column_measure_view, measures_view}
 use Rattle.star_compile_laws.specs.Compiled.{values_code}
-use Rattle.star_compile.specs.Private.Emitted.{values_after}
-use Rattle.star_compile.proofs.Emits.{values_behind, room_for_value, all_written}
+use Rattle.star_compile.{specs.Private.Emitted.values_after, proofs.Emits.{values_behind, room_for_value, all_written}}
 use Rattle.star_compile.proofs.emitter.Emitter.values.Goals as goal
 
 pub value-requires : goal.value-requires

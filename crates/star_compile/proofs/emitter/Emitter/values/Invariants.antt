@@ -1,8 +1,7 @@
 -- The numbers so far and those to come are the numbers.
 use Rattle.std.proofs.Common.{drop, []}
 use Rattle.star_plan.specs.Views.{measures_view}
-use Rattle.star_compile.specs.Private.Emitted.{values_after}
-use Rattle.star_compile.proofs.Emits.{Follows}
+use Rattle.star_compile.{specs.Private.Emitted.values_after, proofs.Emits.Follows}
 use Rattle.star_compile.proofs.emitter.Emitter.values.Given as goal
 
 abbrev pub invariant-loop-aggregate : goal.invariant-loop-aggregate

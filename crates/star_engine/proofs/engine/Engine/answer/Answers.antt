@@ -1,5 +1,4 @@
-use Rattle.star_engine.specs.Answered.{change}
-use Rattle.star_engine.proofs.RunTextLemmas.{noted}
+use Rattle.star_engine.{specs.Answered.change, proofs.RunTextLemmas.noted}
 use Rattle.star_engine.proofs.engine.Engine.answer.Goals as goal
 
 pub returns : goal.returns

@@ -1,7 +1,5 @@
-use Rattle.std.proofs.{Common.◌∙◌, Common.ap, Common.subst, Common.sym, lemmas.Result.err_from_is_err_and}
-use Rattle.std.specs.Prelude.{Err}
-use Rattle.star_engine.specs.{Answered.change, Bench.IsBenchOver}
-use Rattle.star_engine.proofs.BenchAnswers.{bench_some, unwritten}
+use Rattle.std.{proofs.Common.{◌∙◌, ap, subst, sym}, proofs.lemmas.Result.err_from_is_err_and, specs.Prelude.Err}
+use Rattle.star_engine.{specs.Answered.change, specs.Bench.IsBenchOver, proofs.BenchAnswers.{bench_some, unwritten}}
 use Rattle.star_engine.proofs.engine.Engine.bench.Goals as goal
 
 pub write_text-requires : goal.write_text-requires

@@ -1,7 +1,6 @@
 use Rattle.std.proofs.Common.{◌∙◌, arith}
 use Rattle.star_schema.specs.Database.{rows_in}
-use Rattle.star_engine.specs.{Answered.change, Listing.IsListingOver}
-use Rattle.star_engine.proofs.{ByClauses.written, Executing.listing_some, FactLemmas.facts_listed}
+use Rattle.star_engine.{specs.Answered.change, specs.Listing.IsListingOver, proofs.ByClauses.written, proofs.Executing.listing_some, proofs.FactLemmas.facts_listed}
 use Rattle.star_engine.proofs.engine.Engine.check.Goals as goal
 
 pub write_text-requires : goal.write_text-requires

@@ -1,6 +1,5 @@
 use Rattle.std.specs.Prelude.{string_bytes}
-use Rattle.star_engine.specs.{Private.Steps.IsNotVerified, RunTexts.IsForecastErrorOfKind, RunTexts.IsForecastOfKind, RunTexts.IsProgramForecast}
-use Rattle.star_engine.proofs.RunTextLemmas.{forecast_error, judged, matched_as}
+use Rattle.star_engine.{specs.Private.Steps.IsNotVerified, specs.RunTexts.{IsForecastErrorOfKind, IsForecastOfKind, IsProgramForecast}, proofs.RunTextLemmas.{forecast_error, judged, matched_as}}
 use Rattle.star_engine.proofs.engine.Engine.forecast.Goals as goal
 
 pub returns : goal.returns

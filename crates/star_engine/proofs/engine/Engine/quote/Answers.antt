@@ -1,6 +1,5 @@
 use Rattle.std.proofs.Common.{◌∙◌}
-use Rattle.star_engine.specs.{Answered.change, Executions.quote_over, QuoteTexts.IsQuoteOfKindOver}
-use Rattle.star_engine.proofs.{ByClauses.written, Executing.quote_some, RunTextLemmas.quoted}
+use Rattle.star_engine.{specs.Answered.change, specs.Executions.quote_over, specs.QuoteTexts.IsQuoteOfKindOver, proofs.ByClauses.written, proofs.Executing.quote_some, proofs.RunTextLemmas.quoted}
 use Rattle.star_engine.proofs.engine.Engine.quote.Goals as goal
 
 pub write_text-requires : goal.write_text-requires

@@ -1,5 +1,4 @@
-use Rattle.star_engine.specs.{Executions.IsProgramRun, Private.Steps.IsNotVerified, RunTexts.IsForecastErrorOfKind, RunTexts.IsRunOfKind, RunTexts.run_text_of}
-use Rattle.star_engine.proofs.RunTextLemmas.{forecast_error, matched_as, ran}
+use Rattle.star_engine.{specs.Executions.IsProgramRun, specs.Private.Steps.IsNotVerified, specs.RunTexts.{IsForecastErrorOfKind, IsRunOfKind, run_text_of}, proofs.RunTextLemmas.{forecast_error, matched_as, ran}}
 use Rattle.star_engine.proofs.engine.Engine.report.Goals as goal
 
 pub returns : goal.returns

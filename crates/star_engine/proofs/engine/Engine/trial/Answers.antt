@@ -1,5 +1,4 @@
-use Rattle.star_engine.specs.{Answered.change, Trials.IsBoundedReport, Trials.IsTrialErrorOver}
-use Rattle.star_engine.proofs.ByClauses.{written}
+use Rattle.star_engine.{specs.Answered.change, specs.Trials.{IsBoundedReport, IsTrialErrorOver}, proofs.ByClauses.written}
 use Rattle.star_engine.proofs.engine.Engine.trial.Goals as goal
 
 pub write_text-requires : goal.write_text-requires

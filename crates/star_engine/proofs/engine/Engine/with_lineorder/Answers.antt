@@ -1,6 +1,4 @@
-use Rattle.std.proofs.Common.{◌≡◌, subst, sym, ap}
-use Rattle.std.proofs.{lemmas.Result.err_from_is_err_and}
-use Rattle.std.specs.Prelude.{IfErr}
+use Rattle.std.{proofs.Common.{◌≡◌, subst, sym, ap}, proofs.lemmas.Result.err_from_is_err_and, specs.Prelude.IfErr}
 use Rattle.star_schema.specs.{Database.Database, Loadable.IsLoadable}
 use Rattle.star_catalogue.specs.Pieces.{IsReadNextTo, with_lineorder_text}
 use Rattle.star_engine.specs.{Answered.OrMemory, Loads.IsLoadError, Loads.Loaded, Loads.loaded_of}
@@ -40,7 +38,12 @@ returns-clause-loadable c = λ texts text.
 pub returns-clause-loaded : goal.returns-clause-loaded
 returns-clause-loaded c = λ texts text.
     let loaded_as : Database → Loaded =
-    λ d. record { database = d; rows = c.self.inside.limits.rows; visits = c.self.inside.limits.visits } in
+    λ d. record {
+      database = d;
+      rows = c.self.inside.limits.rows;
+      visits =
+          c.self.inside.limits.visits;
+    } in
     subst (λ (l : Loaded). IsReadNextTo l.database c.args.reader.value l.rows texts text
     → loaded_as c.in_ok-loaded.loaded ≡ loaded_of l.rows l.visits (with_lineorder_text texts text))
     c.self.view_is (λ is. ap loaded_as (c.in_ok-loaded.ensures _ texts text is).1)

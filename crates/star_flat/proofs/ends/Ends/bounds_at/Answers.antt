@@ -2,8 +2,8 @@ use Rattle.std.proofs.{Common.◌≡◌, Common.◌+◌, Common.◌-◌, Common.
 use Rattle.star_flat.proofs.EndsLemmas.{end_fits, end_read, length-ends_of}
 use Rattle.star_flat.proofs.ends.Ends.bounds_at.Goals as goal
 
-pub two_places-before-requires : goal.two_places-before-requires
-two_places-before-requires c = grind (arith, length-ends_of, length-map)
+pub two_indexes-before-requires : goal.two_indexes-before-requires
+two_indexes-before-requires c = grind (arith, length-ends_of, length-map)
 
 pub end_at-start-requires-clause-within : goal.end_at-start-requires-clause-within
 end_at-start-requires-clause-within c = grind (arith, length-ends_of, length-map)

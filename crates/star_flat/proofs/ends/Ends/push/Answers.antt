@@ -1,17 +1,14 @@
-use Rattle.std.proofs.Common.{◌≡◌, ◌≤◌, ◌<◌, ◌^◌, ◌-◌, ◌++◌, ◌∷◌, [], sym, ap, ◌∙◌, subst, length, arith}
-use Rattle.std.proofs.{lemmas.List.length-map, lemmas.List.length_push, lemmas.List.Elements.All-push}
-use Rattle.std.specs.{Int.RustNames.unsigned_abs, List.All}
-use Rattle.star_flat.specs.{Private.Ends.ends_of, Repeated.places_in}
-use Rattle.star_flat.proofs.{EndsLemmas.end_pushed, EndsLemmas.from_upto, EndsLemmas.same_ends, ends.Ends.push.Goals.After-start_for}
+use Rattle.std.{proofs.Common.{◌≡◌, ◌≤◌, ◌<◌, ◌^◌, ◌-◌, ◌++◌, ◌∷◌, [], sym, ap, ◌∙◌, subst, length, arith}, proofs.lemmas.List.{length-map, length_push}, proofs.lemmas.List.Elements.All-push, specs.Int.RustNames.unsigned_abs, specs.List.All}
+use Rattle.star_flat.{specs.Private.Ends.ends_of, specs.Repeated.indexes_in, proofs.EndsLemmas.{end_pushed, from_upto, same_ends}, proofs.ends.Ends.push.Goals.After-start_for}
 use Rattle.star_flat.proofs.ends.Ends.push.Goals as goal
 
-counted : (c : After-start_for) → c.len-count.result ≡ length (places_in c.self.inside.offsets)
+counted : (c : After-start_for) → c.len-count.result ≡ length (indexes_in c.self.inside.offsets)
 counted c = c.len-count.ensures ∙ sym (length-map c.self.inside.offsets unsigned_abs)
 
 -- the ends that there were stay
 stay : (c : After-start_for)
-    → ends_of c.start_for.new.starts.items (places_in c.self.inside.offsets)
-    ≡ ends_of c.self.inside.starts.items (places_in c.self.inside.offsets)
+    → ends_of c.start_for.new.starts.items (indexes_in c.self.inside.offsets)
+    ≡ ends_of c.self.inside.starts.items (indexes_in c.self.inside.offsets)
 stay c = grind (arith, same_ends, counted)
 
 pub invariant_of-self : goal.invariant_of-self
@@ -22,23 +19,23 @@ returns-in_err-from-clause-err c = grind (arith, stay)
 
 pub overflow_sub-end : goal.overflow_sub-end
 overflow_sub-end c =
-    from_upto c.self.inside.starts.items (places_in c.self.inside.offsets) c.args.start
+    from_upto c.self.inside.starts.items (indexes_in c.self.inside.offsets) c.args.start
     c.in_ok-from.from c.args.end c.requires.start
     (subst (All (λ e. e ≤ c.args.end)) (sym c.self.view_is) c.requires.after)
     (rw (counted (goal.at.overflow_sub-end c).After-start_for) at c.in_ok-from.ensures.kept)
 
-pub invariant_of-self-in_err-push_place : goal.invariant_of-self-in_err-push_place
-invariant_of-self-in_err-push_place c = grind (arith, stay)
+pub invariant_of-self-in_err-push_index : goal.invariant_of-self-in_err-push_index
+invariant_of-self-in_err-push_index c = grind (arith, stay)
 
-pub returns-in_err-push_place-clause-err : goal.returns-in_err-push_place-clause-err
-returns-in_err-push_place-clause-err c = grind (arith, stay)
+pub returns-in_err-push_index-clause-err : goal.returns-in_err-push_index-clause-err
+returns-in_err-push_index-clause-err c = grind (arith, stay)
 
 -- the ends that there are now
-now : (c : goal.In_ok-push_place)
-    → ends_of c.start_for.new.starts.items (places_in c.push_place.new.rows)
-    ≡ ends_of c.self.inside.starts.items (places_in c.self.inside.offsets) ++ c.args.end ∷ []
+now : (c : goal.In_ok-push_index)
+    → ends_of c.start_for.new.starts.items (indexes_in c.push_index.new.rows)
+    ≡ ends_of c.self.inside.starts.items (indexes_in c.self.inside.offsets) ++ c.args.end ∷ []
 now c =
-    let offsets = places_in c.self.inside.offsets in
+    let offsets = indexes_in c.self.inside.offsets in
     let olds = c.self.inside.starts.items in
     let news = c.start_for.new.starts.items in
     let many : c.len-count.result ≡ length offsets =
@@ -47,9 +44,9 @@ now c =
     from_upto olds offsets c.args.start c.in_ok-from.from c.args.end c.requires.start
     (subst (All (λ e. e ≤ c.args.end)) (sym c.self.view_is) c.requires.after)
     (rw many at c.in_ok-from.ensures.kept) in
-    ap (ends_of news) c.in_ok-push_place.ensures.ok
+    ap (ends_of news) c.in_ok-push_index.ensures.ok
     ∙ end_pushed olds news offsets c.in_ok-from.from c.args.end
-    (λ place h. c.start_for.ensures.same place (omega (arith, h, many)))
+    (λ index h. c.start_for.ensures.same index (omega (arith, h, many)))
     (rw many at c.in_ok-from.ensures.from) upto
 
 pub returns-clause-ok : goal.returns-clause-ok
@@ -57,8 +54,8 @@ returns-clause-ok c = now c ∙ ap (λ es. es ++ c.args.end ∷ []) c.self.view_
 
 pub invariant_of-self-2 : goal.invariant_of-self-2
 invariant_of-self-2 c =
-    let offsets = places_in c.self.inside.offsets in
-    let more = ap length c.in_ok-push_place.ensures.ok
+    let offsets = indexes_in c.self.inside.offsets in
+    let more = ap length c.in_ok-push_index.ensures.ok
     ∙ length_push offsets (c.args.end - c.in_ok-from.from) in (
       omega (
         arith,
@@ -66,7 +63,7 @@ invariant_of-self-2 c =
         c.in_ok-from.ensures.more,
         c.len-count.ensures,
         length-map c.self.inside.offsets unsigned_abs,
-        length-map c.push_place.new.rows unsigned_abs,
+        length-map c.push_index.new.rows unsigned_abs,
       ),
       subst (All (λ e. e < 2 ^ 64)) (sym (now c))
           (All-push (λ e. e < 2 ^ 64) (ends_of c.self.inside.starts.items offsets) c.args.end

@@ -1,12 +1,11 @@
 use Rattle.std.proofs.Common.{◌≡◌, ◌++◌, ◌∷◌, ◌∙◌, arith}
-use Rattle.star_flat.specs.Repeated.{places_in}
-use Rattle.star_flat.proofs.{RepeatedLemmas.anew, RepeatedLemmas.either_of_two, RepeatedLemmas.met_more, RepeatedLemmas.on_two, RepeatedLemmas.text_anew, repeated.RepeatedTexts.push_new.Goals.then-len-self+in_ok-compact, repeated.RepeatedTexts.push_new.Goals.else-len-self}
+use Rattle.star_flat.{specs.Repeated.indexes_in, proofs.RepeatedLemmas.{anew, either_of_two, met_more, on_two, text_anew}, proofs.repeated.RepeatedTexts.push_new.Goals.{then-len-self+in_ok-compact, else-len-self}}
 use Rattle.star_flat.proofs.repeated.RepeatedTexts.push_new.Goals as goal
 
 pub invariant_of-self : goal.invariant_of-self
 invariant_of-self c =
     let ts = c.self-2.inside.kept in
-    let ps = places_in c.self-2.inside.rows in
+    let ps = indexes_in c.self-2.inside.rows in
     either_of_two c.keep.result c.keep.ensures.kept c.keep.ensures.rows c.keep.ensures.err
     (λ kept rows. rw (kept, rows) (
       anew ts ps c.self-2.invariant.0 c.args.text.now,

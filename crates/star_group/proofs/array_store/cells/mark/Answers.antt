@@ -1,5 +1,4 @@
-use Rattle.star_group.proofs.Common.{add-one, ap, get_or, rules, slice_set, true}
-use Rattle.star_group.specs.Private.Taken.{after_rows}
+use Rattle.star_group.{proofs.Common.{add-one, ap, get_or, rules, slice_set, true}, specs.Private.Taken.after_rows}
 use Rattle.star_group.proofs.array_store.cells.mark.Goals as goal
 
 pub loop-row-init : goal.loop-row-init

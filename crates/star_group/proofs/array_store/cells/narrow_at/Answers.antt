@@ -1,5 +1,4 @@
-use Rattle.star_group.proofs.Common.{FitsSigned, get_or, pos, rules, w64}
-use Rattle.star_group.proofs.ArrayCells.{is_narrow}
+use Rattle.star_group.proofs.{Common.{FitsSigned, get_or, pos, rules, w64}, ArrayCells.is_narrow}
 use Rattle.star_group.proofs.array_store.cells.narrow_at.Goals as goal
 
 pub returns : goal.returns

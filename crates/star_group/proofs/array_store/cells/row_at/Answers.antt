@@ -1,11 +1,10 @@
-use Rattle.star_group.proofs.Common.{◌≢◌, ◌<◌, ◌+◌, ◌*◌, ◌∙◌, None, Some, ap, arith, below_more, length, pos, subst, sym, get_or-set_same, get_or-set_other, length-set}
-use Rattle.star_group.proofs.CutRows.{place_read, place_within}
+use Rattle.star_group.proofs.{Common.{◌≢◌, ◌<◌, ◌+◌, ◌*◌, ◌∙◌, None, Some, ap, arith, below_more, length, pos, subst, sym, get_or-set_same, get_or-set_other, length-set}, CutRows.{index_read, index_within}}
 use Rattle.star_group.proofs.array_store.cells.row_at.Goals as goal
 
 pub cell_at-requires : goal.cell_at-requires
-cell_at-requires c = subst (λ n. c.loop-number.number * c.args.places + c.args.place < n)
-    (sym c.requires.long) (place_within c.args.places c.args.aggregate_count c.loop-number.number
-    c.args.place c.loop-number-test.true c.requires.place)
+cell_at-requires c = subst (λ n. c.loop-number.number * c.args.ids + c.args.id < n)
+    (sym c.requires.long) (index_within c.args.ids c.args.aggregate_count c.loop-number.number
+    c.args.id c.loop-number-test.true c.requires.id)
 
 pub loop-number-preserved : goal.loop-number-preserved
 loop-number-preserved c =
@@ -18,7 +17,7 @@ loop-number-preserved c =
           (λ k h. let ne : k ≢ a = omega arith in
           get_or-set_other row a k c.cell_at.result None ne ∙ c.loop-number.invariant.cells k h)
           (get_or-set_same row a c.cell_at.result None here ∙ c.cell_at.ensures
-          ∙ ap Some (place_read c.args.places c.args.aggregate_count c.args.cells.now a
-          c.args.place (pos 0) c.loop-number-test.true c.requires.place));
+          ∙ ap Some (index_read c.args.ids c.args.aggregate_count c.args.cells.now a
+          c.args.id (pos 0) c.loop-number-test.true c.requires.id));
       wide = length-set row a c.cell_at.result ∙ c.loop-number.invariant.wide;
     }

@@ -1,5 +1,4 @@
-use Rattle.star_group.proofs.Common.{◌≡◌, ◌∷◌, [], ◌∙◌, FitsSigned, Some, add-one, ap, arith, get_or, length, pos, refl, rules, slice_set, subst, sym, w128, to_z-of_z, leaves, CanTake, column_after, taking}
-use Rattle.star_group.specs.Private.Taken.{after_rows}
+use Rattle.star_group.{proofs.Common.{◌≡◌, ◌∷◌, [], ◌∙◌, FitsSigned, Some, add-one, ap, arith, get_or, length, pos, refl, rules, slice_set, subst, sym, w128, to_z-of_z, leaves, CanTake, column_after, taking}, specs.Private.Taken.after_rows}
 use Rattle.star_group.proofs.array_store.cells.take_rows.Goals as goal
 
 pub loop-row-init : goal.loop-row-init

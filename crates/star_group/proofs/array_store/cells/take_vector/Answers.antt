@@ -1,5 +1,4 @@
-use Rattle.star_group.proofs.Common.{FitsSigned, Some, add-one, ap, get_or, pos, slice_set, ◌∙◌, rules, w128, to_z-of_z, leaves, taking}
-use Rattle.star_group.specs.Private.Taken.{after_rows}
+use Rattle.star_group.{proofs.Common.{FitsSigned, Some, add-one, ap, get_or, pos, slice_set, ◌∙◌, rules, w128, to_z-of_z, leaves, taking}, specs.Private.Taken.after_rows}
 use Rattle.star_group.proofs.array_store.cells.take_vector.Goals as goal
 
 pub loop-row-init : goal.loop-row-init

@@ -1,6 +1,4 @@
-use Rattle.star_group.proofs.Common.{◌≡◌, ◌<◌, ◌∙◌, ℕ, add-one, ap, arith, below_more, drop, get_or, length, map, pos, subst, suc, sym, get_or_default, Count, Sum, is_i64, value_count, aligned, put_in, word_in, CanTake, HasNarrow, batch_vectors, put_number}
-use Rattle.star_group.proofs.ArrayVectors.{count_left, next_numbers, taken_more, vector_same}
-use Rattle.star_group.proofs.array_store.cells.take_vectors.Goals.{After-are_narrow}
+use Rattle.star_group.proofs.{Common.{◌≡◌, ◌<◌, ◌∙◌, ℕ, add-one, ap, arith, below_more, drop, get_or, length, map, pos, subst, suc, sym, get_or_default, Count, Sum, is_i64, value_count, aligned, put_in, word_in, CanTake, HasNarrow, batch_vectors, put_number}, ArrayVectors.{count_left, next_numbers, taken_more, vector_same}, array_store.cells.take_vectors.Goals.After-are_narrow}
 use Rattle.star_group.proofs.array_store.cells.take_vectors.Goals as goal
 
 -- the number of a row's put, and those after it
@@ -44,7 +42,7 @@ loop-number-preserved c =
     let gs = c.args.aggregates.now in
     let a = c.loop-number.number in
     record {
-      taken = taken_more gs c.args.places (batch_vectors b) c.args.at.now _ _ _ a _
+      taken = taken_more gs c.args.ids (batch_vectors b) c.args.at.now _ _ _ a _
           c.loop-number.invariant.taken c.loop-number-test.true (same w)
           c.take_column.ensures.cells c.take_column.ensures.len;
       narrow = below_more _ _ c.loop-number.invariant.narrow (narrow w);

@@ -1,5 +1,4 @@
-use Rattle.star_group.proofs.Common.{◌≤◌, arith, length, take, length-take}
-use Rattle.star_group.proofs.KeyedRows.{base_narrow}
+use Rattle.star_group.proofs.{Common.{◌≤◌, arith, length, take, length-take}, KeyedRows.base_narrow}
 use Rattle.star_group.proofs.array_store.filling.key_at.Goals as goal
 
 pub returns-clause-narrow : goal.returns-clause-narrow

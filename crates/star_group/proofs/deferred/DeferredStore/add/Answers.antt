@@ -1,6 +1,4 @@
-use Rattle.star_group.proofs.Common.{◌≡◌, ◌∷◌, List, arith, rules, subst, sym, HasBaseWithRoom, IsBase, IsMerged, IsMergedAt, IsRowOfOnePut, MergeStays, RowsStay, entries_of, key_view, row_found, Update}
-use Rattle.star_group.proofs.{Bases.base_more, Bases.base_stays, Bases.total_stays, KeyedRows.base_narrow, deferred.DeferredStore.add.Goals.After-merge-2}
-use Rattle.star_group.specs.Deferred.{group_view}
+use Rattle.star_group.{proofs.Common.{◌≡◌, ◌∷◌, List, arith, rules, subst, sym, HasBaseWithRoom, IsBase, IsMerged, IsMergedAt, IsRowOfOnePut, MergeStays, RowsStay, entries_of, key_view, row_found, Update}, proofs.Bases.{base_more, base_stays, total_stays}, proofs.KeyedRows.base_narrow, proofs.deferred.DeferredStore.add.Goals.After-merge-2, specs.Deferred.group_view}
 use Rattle.star_group.proofs.deferred.DeferredStore.add.Goals as goal
 
 pub merge-requires-clause-narrow : goal.merge-requires-clause-narrow
@@ -15,7 +13,11 @@ merge-requires-clause-stays c =
     let room = c.requires.room in
     subst (λ gs. RowsStay gs (row_found (entries_of s.rows) (key_view c.base_key.result))
     c.row_of_put-row.result) (sym same)
-    (base_stays (group_view s) room.0 (record { keys = c.args.keys.now; values = c.args.values.now })
+    (base_stays (group_view s) room.0 (record {
+      keys = c.args.keys.now;
+      values =
+          c.args.values.now;
+    })
     c.base_key.result c.row_of_put-row.result c.base_key.ensures
     (subst (λ gs. IsRowOfOnePut gs c.args.values.now c.row_of_put-row.result) same
     c.row_of_put-row.ensures) (entries_of s.rows) s.total room.1 room.2)
@@ -26,7 +28,11 @@ merge-requires-2-clause-stays c =
     let same = c.as_slice-aggregates.ensures.value in
     let room = c.requires.room in
     subst (λ gs. MergeStays gs s.total c.row_of_put-row.result) (sym same)
-    (total_stays (group_view s) room.0 (record { keys = c.args.keys.now; values = c.args.values.now })
+    (total_stays (group_view s) room.0 (record {
+      keys = c.args.keys.now;
+      values =
+          c.args.values.now;
+    })
     c.row_of_put-row.result
     (subst (λ gs. IsRowOfOnePut gs c.args.values.now c.row_of_put-row.result) same
     c.row_of_put-row.ensures) room.2 s.total room.1.total)

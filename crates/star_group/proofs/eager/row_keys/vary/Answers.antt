@@ -1,9 +1,8 @@
-use Rattle.star_group.proofs.Common.{◌∷◌, [], ◌≡◌, ◌+◌, ◌-◌, cond, map, arith, sym, ap, ◌∙◌, filter, padded, key_view, keys_from, is_row_key}
-use Rattle.star_group.proofs.{AllRows.base_keys, AllRows.cube_keys, BaseKeyLemmas.doubled, GroupKeys.own_grouping, Rolling.row_keys_more}
+use Rattle.star_group.proofs.{Common.{◌∷◌, [], ◌≡◌, ◌+◌, ◌-◌, cond, map, arith, sym, ap, ◌∙◌, filter, padded, key_view, keys_from, is_row_key}, AllRows.{base_keys, cube_keys}, BaseKeyLemmas.doubled, GroupKeys.own_grouping, Rolling.row_keys_more}
 use Rattle.star_group.proofs.eager.row_keys.vary.Goals as goal
 
-pub loop-place-init : goal.loop-place-init
-loop-place-init c = record {
+pub loop-index-init : goal.loop-index-init
+loop-index-init c = record {
   below = omega arith;
   varied =
       λ keys fits e. e ∙ sym
@@ -12,27 +11,27 @@ loop-place-init c = record {
       (own_grouping c.args.shape keys c.args.key_count fits c.requires));
 }
 
-pub loop-place-preserved : goal.loop-place-preserved
-loop-place-preserved c =
+pub loop-index-preserved : goal.loop-index-preserved
+loop-index-preserved c =
     let s = c.args.shape in
     let count = c.args.key_count in
-    let before = c.loop-place.row_keys.items in
-    let place = c.loop-place.place in
-    let back : place - 1 + 1 ≡ place = omega (arith, c.loop-place-test.true) in
+    let before = c.loop-index.row_keys.items in
+    let index = c.loop-index.index in
+    let back : index - 1 + 1 ≡ index = omega (arith, c.loop-index-test.true) in
     record {
-      below = omega (arith, c.loop-place.invariant.below);
+      below = omega (arith, c.loop-index.invariant.below);
       varied = λ keys fits e.
-          row_keys_more s (place - 1) count keys
-          (omega (arith, c.loop-place-test.true, c.loop-place.invariant.below)) c.requires fits
+          row_keys_more s (index - 1) count keys
+          (omega (arith, c.loop-index-test.true, c.loop-index.invariant.below)) c.requires fits
           (map key_view before) _
-          (c.loop-place.invariant.varied keys fits e
+          (c.loop-index.invariant.varied keys fits e
           ∙ ap (λ n. filter (is_row_key s count) (keys_from n count keys)) (sym back))
-          (doubled (is_row_key s count) (place - 1) before _ c.in_ok-double.ensures);
+          (doubled (is_row_key s count) (index - 1) before _ c.in_ok-double.ensures);
     }
 
 pub returns : goal.returns
 returns c = λ keys fits e.
-    let none : c.loop-place.place ≡ 0 = omega (arith, c.loop-place-test.false) in
-    c.loop-place.invariant.varied keys fits e
+    let none : c.loop-index.index ≡ 0 = omega (arith, c.loop-index-test.false) in
+    c.loop-index.invariant.varied keys fits e
     ∙ ap (filter (is_row_key c.args.shape c.args.key_count))
     (ap (λ n. keys_from n c.args.key_count keys) none ∙ cube_keys c.args.key_count keys)

@@ -1,5 +1,4 @@
-use Rattle.star_group.proofs.Common.{◌≡◌, ◌<◌, ◌-◌, ◌∙◌, ap, sym, subst, arith, cut, child, digit_at, key_at, keys_in}
-use Rattle.star_group.proofs.Tries.{apart_when, start, further, missing}
+use Rattle.star_group.proofs.{Common.{◌≡◌, ◌<◌, ◌-◌, ◌∙◌, ap, sym, subst, arith, cut, child, digit_at, key_at, keys_in}, Tries.{apart_when, start, further, missing}}
 use Rattle.star_group.proofs.keyed.KeyedRows.find.Goals as goal
 
 pub loop-depth-init : goal.loop-depth-init
@@ -28,6 +27,7 @@ loop-depth-preserved c =
     c.child_at-next.result
     (c.child_at-next.ensures
     ∙ ap (λ ls. child ls l.node c.digit_at-digit.result) c.as_slice.ensures.value) more
-    (subst (λ ps. key_at (cut s.listed.width s.listed.len ps) (c.child_at-next.result - 1) ≡ c.args.key.now → ⊥)
+    (subst (λ ps. key_at (cut s.listed.width s.listed.len ps) (c.child_at-next.result - 1)
+    ≡ c.args.key.now → ⊥)
     c.as_slice-in-loop-depth.ensures.value
     (apart_when c.has_key.result c.has_key.ensures c.if-has_key.false))

@@ -1,5 +1,4 @@
-use Rattle.star_group.proofs.Common.{Entry, ◌≡◌, ◌∙◌, Some, rules, ap, length, subst, sym, take, keys_in, IsKeyFound}
-use Rattle.star_group.proofs.{KeyedRows.number_among, KeyedRows.row_held, KeyedRows.row_missing, ListedRows.entry_at}
+use Rattle.star_group.proofs.{Common.{Entry, ◌≡◌, ◌∙◌, Some, rules, ap, length, subst, sym, take, keys_in, IsKeyFound}, KeyedRows.{number_among, row_held, row_missing}, ListedRows.entry_at}
 use Rattle.star_group.proofs.keyed.KeyedRows.found.Goals as goal
 
 pub row-requires : goal.row-requires

@@ -1,5 +1,4 @@
-use Rattle.star_group.proofs.Common.{◌≡◌, ◌∙◌, [], get_or, length, rules, set, subst, sym, take, cut, entries_of, keys_in, unwrap_or, IsMerged, MergeStays, RowsStay, IsKeyFound}
-use Rattle.star_group.proofs.KeyedRows.{merged_missing, number_within, row_held, set_held}
+use Rattle.star_group.proofs.{Common.{◌≡◌, ◌∙◌, [], get_or, length, rules, set, subst, sym, take, cut, entries_of, keys_in, unwrap_or, IsMerged, MergeStays, RowsStay, IsKeyFound}, KeyedRows.{merged_missing, number_within, row_held, set_held}}
 use Rattle.star_group.proofs.keyed.KeyedRows.merge.Goals as goal
 
 pub merge_at-requires-clause-within : goal.merge_at-requires-clause-within

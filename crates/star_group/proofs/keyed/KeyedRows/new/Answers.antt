@@ -1,5 +1,4 @@
-use Rattle.star_group.proofs.Common.{◌≡◌, ◌∷◌, [], refl, rules}
-use Rattle.star_group.proofs.{ListedRows.no_entries, Tries.none_cut}
+use Rattle.star_group.proofs.{Common.{◌≡◌, ◌∷◌, [], refl, rules}, ListedRows.no_entries, Tries.none_cut}
 use Rattle.star_group.proofs.keyed.KeyedRows.new.Goals as goal
 
 pub invariant_of-result-clause-trie : goal.invariant_of-result-clause-trie

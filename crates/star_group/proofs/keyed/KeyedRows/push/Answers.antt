@@ -1,5 +1,4 @@
-use Rattle.star_group.proofs.Common.{◌≡◌, ◌++◌, ◌∷◌, [], rules, set, subst, sym, take, IsTrie, keys_in, listed_keys}
-use Rattle.star_group.proofs.Tries.{is_trie_after}
+use Rattle.star_group.proofs.{Common.{◌≡◌, ◌++◌, ◌∷◌, [], rules, set, subst, sym, take, IsTrie, keys_in, listed_keys}, Tries.is_trie_after}
 use Rattle.star_group.proofs.keyed.KeyedRows.push.Goals as goal
 
 pub invariant_of-self-2-clause-trie : goal.invariant_of-self-2-clause-trie

@@ -1,5 +1,4 @@
-use Rattle.star_group.proofs.Common.{◌≡◌, ◌+◌, ◌*◌, ◌++◌, ◌∙◌, ap, arith, length, length-append, rules, sym, cut, keyed, listed_entries}
-use Rattle.star_group.proofs.{CutRows.rows_long, ListedRows.entries_more}
+use Rattle.star_group.proofs.{Common.{◌≡◌, ◌+◌, ◌*◌, ◌++◌, ◌∙◌, ap, arith, length, length-append, rules, sym, cut, keyed, listed_entries}, CutRows.rows_long, ListedRows.entries_more}
 use Rattle.star_group.proofs.keyed.ListedRows.append.Goals as goal
 
 pub invariant_of-self-2-clause-long_keys : goal.invariant_of-self-2-clause-long_keys

@@ -1,5 +1,4 @@
-use Rattle.star_group.proofs.Common.{◌≡◌, ◌≤◌, ◌+◌, ◌++◌, ◌∙◌, ap, arith, length, rules, take, length-take-le, listed_entries, listed_keys}
-use Rattle.star_group.proofs.{CutRows.cut_one, ListedRows.entries_more, ListedRows.keys_more, ListedRows.one_entry}
+use Rattle.star_group.proofs.{Common.{◌≡◌, ◌≤◌, ◌+◌, ◌++◌, ◌∙◌, ap, arith, length, rules, take, length-take-le, listed_entries, listed_keys}, CutRows.cut_one, ListedRows.{entries_more, keys_more, one_entry}}
 use Rattle.star_group.proofs.keyed.ListedRows.push.Goals as goal
 
 pub returns-clause-keys : goal.returns-clause-keys

@@ -1,5 +1,4 @@
-use Rattle.star_group.proofs.Common.{Entry, ◌∙◌, [], ap, get_or, length, sym, cut}
-use Rattle.star_group.proofs.ListedRows.{cells_wide, entry_at}
+use Rattle.star_group.proofs.{Common.{Entry, ◌∙◌, [], ap, get_or, length, sym, cut}, ListedRows.{cells_wide, entry_at}}
 use Rattle.star_group.proofs.keyed.ListedRows.row.Goals as goal
 
 pub returns-clause-row : goal.returns-clause-row

@@ -1,5 +1,4 @@
-use Rattle.star_group.proofs.Common.{◌≡◌, ◌+◌, ◌-◌, ◌*◌, ◌∙◌, ap, arith, length, subst, sym, IsMerged, MergeStays}
-use Rattle.star_group.proofs.CutRows.{cut_put, cut_wide, mid_at}
+use Rattle.star_group.proofs.{Common.{◌≡◌, ◌+◌, ◌-◌, ◌*◌, ◌∙◌, ap, arith, length, subst, sym, IsMerged, MergeStays}, CutRows.{cut_put, cut_wide, mid_at}}
 use Rattle.star_group.proofs.keyed.cells.merge_at.Goals as goal
 
 pub merge_into-requires-clause-stays : goal.merge_into-requires-clause-stays

@@ -1,5 +1,4 @@
-use Rattle.star_group.proofs.Common.{◌≡◌, drop, Rollup, is_grouping, key_view}
-use Rattle.star_group.proofs.BaseKeyLemmas.{goes_on}
+use Rattle.star_group.proofs.{Common.{◌≡◌, drop, Rollup, is_grouping, key_view}, BaseKeyLemmas.goes_on}
 use Rattle.star_group.proofs.keyed.key.are_shown_first.Given as goal
 
 abbrev pub invariant-loop-part : goal.invariant-loop-part

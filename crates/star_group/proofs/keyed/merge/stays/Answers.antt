@@ -1,6 +1,5 @@
 use Rattle.star_group.proofs.Common.{◌≡◌, Bool, true, false, ℤ, pos, ◌+ℤ◌, Option, Some, None, refl, sym, ap, ◌∙◌, arith, not, ints, Sum, Count, leaves, merged}
-use Rattle.std.proofs.Common.{to_z-of_z}
-use Rattle.std.specs.Prelude.{unwrap_or}
+use Rattle.std.{proofs.Common.to_z-of_z, specs.Prelude.unwrap_or}
 use Rattle.star_interval.specs.Range.{is_i64, is_i128}
 use Rattle.star_group.proofs.keyed.merge.stays.Goals as goal
 

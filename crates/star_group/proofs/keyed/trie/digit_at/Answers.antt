@@ -1,5 +1,4 @@
-use Rattle.star_group.proofs.Common.{◌*◌, ◌/◌, ◌%◌, ◌^◌, ◌∙◌, ap, arith, length, rules}
-use Rattle.star_group.proofs.Tries.{digit_of_part, digit_of_word}
+use Rattle.star_group.proofs.{Common.{◌*◌, ◌/◌, ◌%◌, ◌^◌, ◌∙◌, ap, arith, length, rules}, Tries.{digit_of_part, digit_of_word}}
 use Rattle.star_group.proofs.keyed.trie.digit_at.Goals as goal
 
 pub returns-then-depth-lt32-clause-digit : goal.returns-then-depth-lt32-clause-digit

@@ -1,5 +1,4 @@
-use Rattle.star_group.proofs.Common.{◌≡◌, ◌≤◌, ◌∷◌, ◌∙◌, ap, arith, length, rules, subst, sym, take, puts_after, put_in, HasRoom}
-use Rattle.star_group.proofs.ArrayPuts.{err_any}
+use Rattle.star_group.proofs.{Common.{◌≡◌, ◌≤◌, ◌∷◌, ◌∙◌, ap, arith, length, rules, subst, sym, take, puts_after, put_in, HasRoom}, ArrayPuts.err_any}
 use Rattle.star_group.proofs.store.GroupStore.put_batch.Goals as goal
 
 pub put-requires-clause-keys : goal.put-requires-clause-keys

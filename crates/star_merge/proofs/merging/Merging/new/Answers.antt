@@ -1,7 +1,6 @@
-use Rattle.std.proofs.Common.{◌∙◌, [], ap, refl, subst, sym}
+use Rattle.std.proofs.Common.{◌∙◌, ◌≤◌, ℕ, List, [], Option, ap, refl, subst, sym}
 use Rattle.star_schema.specs.{Order.value_cmp, Tables.Value}
-use Rattle.star_merge.specs.Private.Adding.{AddUpAlike, addends, empty_total}
-use Rattle.star_merge.proofs.Steps.{alike_none}
+use Rattle.star_merge.{specs.Merged.reach, specs.Private.Adding.{AddUpAlike, addends, empty_total, reach_at}, proofs.Small.nothing_reached, proofs.Steps.alike_none}
 use Rattle.star_merge.proofs.merging.Merging.new.Goals as goal
 
 pub returns : goal.returns
@@ -14,6 +13,12 @@ returns c =
       count = refl;
       aggregates = refl;
       alike = subst (λ xs. AddUpAlike value_cmp gs xs (addends s n gs []))
-          (sym (c.in_ok-groups.ensures ∙ ap (λ as'. empty_total {K = Value} s n as') c.deref.ensures.value))
+          (sym (c.in_ok-groups.ensures ∙ ap (λ as'.
+          empty_total {K = Value} s n as') c.deref.ensures.value))
           (alike_none s n gs);
+      within = subst (λ xs. (keys : List (Option Value)) (index : ℕ)
+          → reach_at keys index xs ≤ reach index [])
+          (sym (c.in_ok-groups.ensures ∙ ap (λ as'.
+          empty_total {K = Value} s n as') c.deref.ensures.value))
+          (nothing_reached s n gs);
     }

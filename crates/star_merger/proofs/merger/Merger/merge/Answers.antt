@@ -1,25 +1,13 @@
-use Rattle.std.proofs.Common.{◌≡◌, ◌∙◌, List, None, ◌∷◌, arith, map, refl, subst, sym, ℕ}
-use Rattle.std.specs.List.{All}
-use Rattle.star_schema.specs.Loadable.{database_of}
-use Rattle.star_schema.specs.declared.table.TableId.TheVariants.{Lineorder}
-use Rattle.star_schema.specs.Sizes.{size_of}
+use Rattle.std.{proofs.Common.{◌≡◌, ◌∙◌, List, None, ◌∷◌, arith, map, refl, subst, sym, ℕ}, specs.List.All}
+use Rattle.star_schema.specs.{Loadable.database_of, declared.table.TableId.TheVariants.Lineorder, Sizes.size_of}
 use Rattle.star_partial.specs.Contents.{Contents, bounds_at}
-use Rattle.star_merger.specs.Partials.{contents_of}
+use Rattle.star_merger.{specs.Partials.contents_of, specs.Merged.{IsOverlap, spans_of}, specs.Private.Checked.AreDisjointSpans, specs.Private.Outcomes.{HasRoom, IsUnmerged}, specs.Private.Shown.IsUsable, specs.Private.Written.IsMergedTelling, specs.TextShares.{all_contents, whole_texts}, proofs.JoinedFacts.are_facts, proofs.Room.has_room, proofs.Results.{as_noted, merged_as, none_fits, none_unmerged, not_checked, refused_after, unfit, unprinted, unprinted_same}, proofs.TextBytes.quote_some, proofs.TextParts.{all_dimensions, contents_same, disjoint_parts, own_shares, row_share, row_shares, whole_loadable}, proofs.Told.{count_moved, known_moved, loaded, parts_moved, quote_due, refusal_due, room_moved, shares_moved, telling_due, telling_moved, too_many_due, usable_moved, whole_rows}, proofs.Usable.usable, proofs.Whole.own_facts}
 use Rattle.star_program.specs.World.{World}
 use Rattle.star_safety.specs.Admissible.{first_refusal}
 use Rattle.star_verify.specs.{Facts.AreFacts, Views.refusal_view}
 use Rattle.star_world.specs.WorldOf.{world_of}
 use Rattle.star_compile_laws.specs.Compiled.{compiled}
 use Rattle.star_engine.specs.{Answered.change, Queries.IsQueryQuote, Queries.IsQueryRun, Queries.IsQueryRunError}
-use Rattle.star_merger.specs.{Merged.IsOverlap, Merged.spans_of, Private.Checked.AreDisjointSpans, Private.Outcomes.IsUnmerged, Private.Shown.IsUsable, Private.Written.IsMergedTelling}
-use Rattle.star_merger.specs.TextShares.{all_contents, whole_texts}
-use Rattle.star_merger.proofs.JoinedFacts.{are_facts}
-use Rattle.star_merger.proofs.Results.{as_noted, merged_as, none_fits, not_checked, only_overflow, refused_after, unfit, unprinted, unprinted_same}
-use Rattle.star_merger.proofs.TextBytes.{quote_some}
-use Rattle.star_merger.proofs.TextParts.{all_dimensions, contents_same, disjoint_parts, own_shares, row_share, row_shares, whole_loadable}
-use Rattle.star_merger.proofs.Told.{count_moved, known_moved, loaded, parts_moved, quote_due, refusal_due, shares_moved, telling_due, telling_moved, too_many_due, usable_moved, whole_rows}
-use Rattle.star_merger.proofs.Usable.{usable}
-use Rattle.star_merger.proofs.Whole.{own_facts}
 use Rattle.star_merger.proofs.merger.Merger.merge.Goals as goal
 
 pub write_merged-requires : goal.write_merged-requires
@@ -32,7 +20,8 @@ write_refused-requires g c =
     (quote_some c.from-rows.result)
 
 pub returns-in-Err-clause-merged : goal.returns-in-Err-clause-merged
-returns-in-Err-clause-merged g c = λ query hash texts share other shares others is are same moved distinct.
+returns-in-Err-clause-merged g c =
+    λ query hash texts share other shares others is are same moved distinct.
     let rows = c.args.limits.rows in
     let visits = c.args.limits.visits in
     let xs = share ∷ shares in
@@ -47,7 +36,8 @@ returns-in-Err-clause-merged g c = λ query hash texts share other shares others
     (IsQueryRunError rows visits whole query) rows
     (whole_rows rows visits texts query hash share shares are) c.args.is_distinct
     (spans_of (map contents_of c.args.partials.now)) c.in-Err.fault
-    (λ fault is_many many. too_many_due rows visits texts query hash other others are_ys is.p is.meant
+    (λ fault is_many many.
+    too_many_due rows visits texts query hash other others are_ys is.p is.meant
     fault is_many (omega (arith, count, many))) refl refl
     (c.in-Err.ensures hash (database_of texts) (row_share share) (row_shares shares)
     (same ∙ contents_same xs)
@@ -55,7 +45,8 @@ returns-in-Err-clause-merged g c = λ query hash texts share other shares others
     (all_dimensions rows visits texts query hash xs c.args.partials.now are same))
 
 pub returns-in-Ok-forecast-clause-merged : goal.returns-in-Ok-forecast-clause-merged
-returns-in-Ok-forecast-clause-merged g c = λ query hash texts share other shares others is are same moved distinct.
+returns-in-Ok-forecast-clause-merged g c =
+    λ query hash texts share other shares others is are same moved distinct.
     let rows = c.args.limits.rows in
     let visits = c.args.limits.visits in
     let xs = share ∷ shares in
@@ -76,16 +67,24 @@ returns-in-Ok-forecast-clause-merged g c = λ query hash texts share other share
     (omega (arith, known.sizes Lineorder, checked.few)) distinct
     (λ not. parts_moved rows visits texts query hash xs ys moved
     (disjoint_parts rows visits texts query hash xs
-    (subst (λ (all : List Contents). AreDisjointSpans (spans_of all)) same (checked.disjoint not)))) in
+    (subst (λ (all : List Contents). AreDisjointSpans (spans_of all)) same
+    (checked.disjoint not)))) in
     let none : first_refusal (world_of over) visits (compiled is.p) ≡ None =
     subst (λ program. first_refusal (world_of over) visits program ≡ None) is.program
     (c.in-Ok-forecast.ensures.accepted (world_of over)
     (are_facts over facts (omega arith) known)) in
+    let loaded_ys = loaded rows visits texts query hash other others are_ys loads is.p is.meant in
     let fits = none_fits visits over query is.p is.meant
-    (c.queries_that_fit_are_answered.ensures.accepted visits over query is.p
-    (loaded rows visits texts query hash other others are_ys loads is.p is.meant) is.meant)
+    (c.queries_that_fit_are_answered.ensures.accepted visits over query is.p loaded_ys is.meant)
     (c.admissible_programs_within_the_limit_are_not_refused.ensures (world_of over) visits
     (compiled is.p)) none in
+    let own_ys = own_shares rows visits texts query hash ys are_ys in
+    let usable_ys = usable visits (database_of texts) query is.p is.meant
+    (row_shares ys) own_ys fits in
+    let room = has_room visits (database_of texts) query is.p
+    (row_shares ys) is.meant own_ys usable_ys
+    loaded_ys (c.sound_rows_have_a_world.ensures over loaded_ys.sound) fits
+    (omega (arith, known.sizes Lineorder)) in
     let count = c.from-rows.result in
     let note = c.as_bytes.result.now in
     let counted = c.from-rows.ensures ∙ known.sizes Lineorder in
@@ -94,21 +93,23 @@ returns-in-Ok-forecast-clause-merged g c = λ query hash texts share other share
     (change g.N.Sink.contents g.N.Sink.is_failed c.args.notes.now c.write_merged.new.notes)
     (λ (quoted : List ℕ). quoted ≡ note) (IsQueryQuote rows whole query)
     (IsMergedTelling is.p all count note) (IsQueryRun rows visits whole query)
-    (λ fault. ⊥) (IsQueryRunError rows visits whole query) (IsUnmerged all)
+    (λ fault. ⊥) (IsQueryRunError rows visits whole query) (IsUnmerged is.p all)
     (IsOverlap c.args.is_distinct (spans_of all)) c.write_merged.result
-    (λ text e. quote_due rows visits texts query hash other others are_ys loads is.p is.meant count note
+    (λ text e. quote_due rows visits texts query hash other others are_ys loads is.p is.meant count
+    note
     text counted quoted e)
     (λ run told. telling_due rows visits texts query hash other others are_ys loads is.p is.meant
     count note (all_contents ys) run refl counted quoted fits
     (telling_moved rows visits texts query hash xs ys moved is.p count note run
     (subst (λ all. IsMergedTelling is.p all count note run) same told)))
     (λ fault never. absurd never)
-    (only_overflow all c.args.is_distinct (spans_of all)
+    (λ index fault other bad. absurd (none_unmerged is.p all
     (subst (All IsUsable) (sym same)
     (usable_moved rows visits texts query hash xs ys moved
-    (subst (All IsUsable) (sym (contents_same ys))
-    (usable visits (database_of texts) query is.p is.meant (row_shares ys)
-    (own_shares rows visits texts query hash ys are_ys) fits)))))
+    (subst (All IsUsable) (sym (contents_same ys)) usable_ys)))
+    (subst (HasRoom is.p) (sym same)
+    (room_moved rows visits texts query hash xs ys moved is.p
+    (subst (HasRoom is.p) (sym (contents_same ys)) room))) index fault other bad))
     (c.write_merged.ensures.merged query is)
 
 pub returns-clause-merged : goal.returns-clause-merged
@@ -133,7 +134,8 @@ returns-clause-merged g c = λ query hash texts share other shares others is are
     (omega (arith, known.sizes Lineorder, checked.few)) distinct
     (λ not. parts_moved rows visits texts query hash xs ys moved
     (disjoint_parts rows visits texts query hash xs
-    (subst (λ (all : List Contents). AreDisjointSpans (spans_of all)) same (checked.disjoint not)))) in
+    (subst (λ (all : List Contents). AreDisjointSpans (spans_of all)) same
+    (checked.disjoint not)))) in
     let laws = c.queries_that_fit_are_answered.ensures in
     let facts_known = are_facts over facts (omega arith) known in
     let note = c.as_bytes-in-Err-forecast.result.now in
@@ -149,7 +151,8 @@ returns-clause-merged g c = λ query hash texts share other shares others is are
     ((w : World) → AreFacts w facts
     → first_refusal w visits c.args.self.now.program ≡ refusal_view c.in-Err-forecast.refusal)
     c.write_refused.result c.in-Err-forecast.ensures.refused
-    (λ told not_memory. refusal_due rows visits texts query hash other others are_ys loads is.p is.meant
+    (λ told not_memory. refusal_due rows visits texts query hash other others are_ys loads is.p
+    is.meant
     c.in-Err-forecast.refusal
     (unfit visits over query is.p is.meant
     (laws.accepted visits over query is.p
@@ -158,9 +161,11 @@ returns-clause-merged g c = λ query hash texts share other shares others is are
     (compiled is.p)) c.in-Err-forecast.refusal (laws.costly visits over is.p)
     (laws.wide visits over query is.p is.meant) (laws.first visits over query is.p is.meant)
     (subst (λ program. first_refusal (world_of over) visits program
-    ≡ refusal_view c.in-Err-forecast.refusal) is.program (told (world_of over) facts_known)) not_memory))
+    ≡ refusal_view c.in-Err-forecast.refusal) is.program
+    (told (world_of over) facts_known)) not_memory))
     refl
-    (quote_due rows visits texts query hash other others are_ys loads is.p is.meant c.from-rows.result
+    (quote_due rows visits texts query hash other others are_ys loads is.p is.meant
+    c.from-rows.result
     note note (c.from-rows.ensures ∙ known.sizes Lineorder)
     (c.as_bytes-in-Err-forecast.ensures.value ∙ c.in-Ok-quote_note.ensures) refl)
     c.write_refused.ensures))

@@ -1,11 +1,7 @@
-use Rattle.std.proofs.Common.{◌≡◌, ◌∙◌, List, ap, subst, sym, ℕ}
-use Rattle.std.specs.Prelude.{Err, IfOk, Ok, Result}
+use Rattle.std.{proofs.Common.{◌≡◌, ◌∙◌, List, ap, subst, sym, ℕ}, specs.Prelude.{Err, IfOk, Ok, Result}}
 use Rattle.star_partial.specs.{Contents.Contents, Text.partial_text}
-use Rattle.star_merger.specs.Partials.{contents_of}
-use Rattle.star_merger.specs.declared.partial.Partial.{Partial}
+use Rattle.star_merger.{specs.Partials.contents_of, specs.declared.partial.Partial.Partial, specs.Columns.{column_kinds, column_names, plan_columns}, specs.Spelled.IsSpelled, proofs.TextsApart.contents_same, proofs.Whole.one_plan}
 use Rattle.star_report.specs.Columns.{ColumnKind}
-use Rattle.star_merger.specs.{Columns.column_kinds, Columns.column_names, Spelled.IsSpelled}
-use Rattle.star_merger.proofs.TextsApart.{contents_same}
 use Rattle.star_merger.proofs.merger.Merger.read.Goals as goal
 
 read_same : {E : Type 0} (text query own : List ℕ) (names : List (List ℕ)) (kinds : List ColumnKind)
@@ -25,5 +21,13 @@ returns-clause-same c = λ query written is spelled text.
     let result = c.read_partial.result in
     read_same c.args.text.now query c.deref.result.now (column_names columns) (column_kinds columns)
     written result (c.deref.ensures.value ∙ is.text) spelled text c.read_partial.ensures.text
-    (subst (λ columns. IfOk result (λ partial. IsSpelled (column_names columns) (column_kinds columns)
+    (subst (λ columns. IfOk result (λ partial.
+    IsSpelled (column_names columns) (column_kinds columns)
     (contents_of partial))) c.deref-2.ensures.value c.read_partial.ensures.spelled)
+
+pub returns-clause-written : goal.returns-clause-written
+returns-clause-written c = λ most database query is merger.
+    let same = one_plan query is.partial.p merger.p is.partial.meant merger.meant in
+    returns-clause-same c query is.contents merger
+    (subst (λ columns. IsSpelled (column_names columns) (column_kinds columns) is.contents)
+    (ap plan_columns same ∙ sym merger.columns) is.spelled) is.written

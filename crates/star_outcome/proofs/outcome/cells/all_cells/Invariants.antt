@@ -1,5 +1,4 @@
-use Rattle.std.proofs.Common.{◌≡◌, take}
-use Rattle.std.specs.List.{flat_map}
+use Rattle.std.{proofs.Common.{◌≡◌, take}, specs.List.flat_map}
 use Rattle.star_group.specs.StoreRows.{row_at}
 use Rattle.star_outcome.specs.Private.Decoded.{row_cells}
 use Rattle.star_world.specs.WorldOf.{world_of}

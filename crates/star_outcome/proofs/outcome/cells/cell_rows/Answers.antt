@@ -1,6 +1,5 @@
 use Rattle.std.proofs.{Common.length, Common.ap, Common.◌∙◌, lemmas.List.length-map}
-use Rattle.star_program.specs.{Outcome.decoded_row, RowCells.cell_of, Rows.cut}
-use Rattle.star_program.proofs.Rows.{cut_rows, length-rows}
+use Rattle.star_program.{specs.Outcome.decoded_row, specs.RowCells.cell_of, specs.Rows.cut, proofs.Rows.{cut_rows, length-rows}}
 use Rattle.star_group.specs.StoreRows.{row_at}
 use Rattle.star_outcome.specs.Private.Decoded.{row_cells}
 use Rattle.star_world.specs.WorldOf.{world_of}

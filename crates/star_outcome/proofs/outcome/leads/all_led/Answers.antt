@@ -1,5 +1,4 @@
-use Rattle.std.proofs.Common.{◌∙◌, ◌++◌, ◌∷◌, [], sym, arith}
-use Rattle.std.proofs.lemmas.List.FromFn.{map-range_with_len_more}
+use Rattle.std.proofs.{Common.{◌∙◌, ◌++◌, ◌∷◌, [], sym, arith}, lemmas.List.FromFn.map-range_with_len_more}
 use Rattle.star_outcome.specs.Private.Leads.{led_at}
 use Rattle.star_outcome.proofs.outcome.leads.all_led.Goals as goal
 

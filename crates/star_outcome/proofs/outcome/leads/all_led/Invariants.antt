@@ -1,5 +1,4 @@
-use Rattle.std.proofs.Common.{◌≡◌, map}
-use Rattle.std.specs.List.{range_with_len}
+use Rattle.std.{proofs.Common.{◌≡◌, map}, specs.List.range_with_len}
 use Rattle.star_outcome.specs.Private.Leads.{led_at}
 use Rattle.star_outcome.proofs.outcome.leads.all_led.Given as goal
 

@@ -1,12 +1,8 @@
-use Rattle.std.proofs.Common.{ap, length, map, rules, subst, sym, ◌∙◌, ◌≡◌}
-use Rattle.std.proofs.{lemmas.Simd.map-map}
-use Rattle.std.specs.{Prelude.IsPermutation, List.AllByRecursion, List.Contains, List.range_with_len, List.Sorted.IsSortedBy, Ordering.is_lt}
-use Rattle.star_group.proofs.Contents.{if_ok}
+use Rattle.std.{proofs.Common.{ap, length, map, rules, subst, sym, ◌∙◌, ◌≡◌}, proofs.lemmas.Simd.map-map, specs.Prelude.IsPermutation, specs.List.{AllByRecursion, Contains, range_with_len}, specs.List.Sorted.IsSortedBy, specs.Ordering.is_lt}
+use Rattle.star_group.{proofs.Contents.if_ok, specs.StoreRows.row_at}
 use Rattle.star_schema.specs.Groups.{GroupRow as Row}
-use Rattle.star_group.specs.StoreRows.{row_at}
 use Rattle.star_program.specs.{declared.key.KeyValue.KeyValue, Keys.key_value_cmp, Puts.Update}
-use Rattle.star_outcome.specs.{declared.outcome.leads.Led.Led, Private.Decoded.AreSortedGroups, Private.Leads.led_at, Private.Leads.led_cmp, Private.RowOrder.row_order}
-use Rattle.star_outcome.proofs.{GroupRows.groups_alike, GroupRows.groups_moved, GroupRows.rows_apart, LedRows.led_total, LedRows.rows_ascend, LedRows.rows_moved, RowOrders.AreAlike, SortedRows.sorted_by_answers, SortedRows.sorted_rows}
+use Rattle.star_outcome.{specs.declared.outcome.leads.Led.Led, specs.Private.Decoded.AreSortedGroups, specs.Private.Leads.{led_at, led_cmp}, specs.Private.RowOrder.row_order, proofs.GroupRows.{groups_alike, groups_moved, rows_apart}, proofs.LedRows.{led_total, rows_ascend, rows_moved}, proofs.RowOrders.AreAlike, proofs.SortedRows.{sorted_by_answers, sorted_rows}}
 use Rattle.star_outcome.proofs.outcome.order.sorted_numbers.Goals as goal
 
 pub returns : goal.returns
@@ -27,7 +23,8 @@ returns c =
     → AreAlike n a b) c.requires.are.2 (groups_alike d updates rows fit c.requires.are.3.groups)
     in
     let ordered = subst (λ cs. IsSortedBy (λ a b. is_lt (row_order cs a b)) sorted)
-    (c.as_slice-columns.ensures.value ∙ c.in_ok-columns.ensures) (rows_ascend columns rows all moved up) in
+    (c.as_slice-columns.ensures.value ∙ c.in_ok-columns.ensures)
+    (rows_ascend columns rows all moved up) in
     if_ok _ _ c.numbers_of.result
     (λ numbers is d' updates' are.
     let same : map (row_at rows) numbers.items ≡ sorted =
@@ -37,6 +34,7 @@ returns c =
       groups = groups_moved key_value_cmp d'.shape d'.count d'.aggregates updates' rows
           sorted (rows_moved columns rows all moved) are.groups;
       in_order = sorted_rows c.args.sorts.now c.args.count rows sorted
-          (rows_apart d updates rows c.requires.are.3) alike (rows_moved columns rows all moved) ordered;
+          (rows_apart d updates rows c.requires.are.3) alike
+          (rows_moved columns rows all moved) ordered;
     }))
     c.numbers_of.ensures

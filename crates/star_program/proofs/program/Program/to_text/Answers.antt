@@ -1,6 +1,5 @@
 use Rattle.std.proofs.{Common.ℕ, Common.List, Common.subst, Common.sym, lemmas.Result.IfOk-weaker}
-use Rattle.star_program.specs.Text.Spelling.{Spells}
-use Rattle.star_program.proofs.Text.Spelled.{written}
+use Rattle.star_program.{specs.Text.Spelling.Spells, proofs.Text.Spelled.written}
 use Rattle.star_program.proofs.program.Program.to_text.Goals as goal
 
 pub returns-clause-spells : goal.returns-clause-spells

@@ -1,6 +1,5 @@
 -- The lines of the steps still to come.
-use Rattle.std.proofs.Common.{◌≡◌, ◌≤◌, ◌+◌, ◌*◌, ◌++◌, drop}
-use Rattle.std.specs.List.{flat_map}
+use Rattle.std.{proofs.Common.{◌≡◌, ◌≤◌, ◌+◌, ◌*◌, ◌++◌, drop}, specs.List.flat_map}
 use Rattle.star_program.specs.{Code.code_size, Code.scan_depth, CodeOfSteps.code_of_steps, Private.Followed.code_of_step, Text.Statements.lines_of_code, Text.Written.written_line}
 use Rattle.star_program.proofs.spelling.body_lines.+writing.Given as goal
 

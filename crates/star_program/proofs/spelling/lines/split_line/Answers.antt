@@ -1,6 +1,4 @@
-use Rattle.std.proofs.Common.{◌≡◌, ◌==◌, ◌∙◌, Some, None, add-one, sym}
-use Rattle.std.specs.List.{position}
-use Rattle.std.proofs.lemmas.List.Quantifiers.{position-Some}
+use Rattle.std.{proofs.Common.{◌≡◌, ◌==◌, ◌∙◌, Some, None, add-one, sym}, specs.List.position, proofs.lemmas.List.Quantifiers.position-Some}
 use Rattle.star_program.proofs.Text.{Positions.position-None, LineLemmas.empty_lines, LineLemmas.first_line, LineLemmas.one_line}
 use Rattle.star_program.proofs.spelling.lines.split_line.Goals as goal
 
@@ -14,7 +12,7 @@ returns-in-Some-clause-line c =
     sym c.in-Some.ensures in
     let at = position-Some (λ b. b == 10) c.args.text.now c.in-Some.end 0 found in
     let line = first_line c.args.text.now c.in-Some.end at.0 at.1 at.2 in
-    rw (c.without_return.ensures, c.from_place.ensures, add-one) line
+    rw (c.without_return.ensures, c.from_index.ensures, add-one) line
 
 pub returns-in-None-clause-line : goal.returns-in-None-clause-line
 returns-in-None-clause-line c =

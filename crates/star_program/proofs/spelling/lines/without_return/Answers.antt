@@ -1,5 +1,4 @@
-use Rattle.std.proofs.Common.{◌≡◌, ◌==◌, ◌∙◌, ◌∷◌, ◌++◌, [], true, false, refl, sym}
-use Rattle.std.proofs.lemmas.Bool.{eq-eqb, ne_eqb}
+use Rattle.std.proofs.{Common.{◌≡◌, ◌==◌, ◌∙◌, ◌∷◌, ◌++◌, [], true, false, refl, sym}, lemmas.Bool.{eq-eqb, ne_eqb}}
 use Rattle.star_program.proofs.Text.LineLemmas.{without_return-push}
 use Rattle.star_program.proofs.spelling.lines.without_return.Goals as goal
 

@@ -1,7 +1,6 @@
 -- What was read, and the words still to come.
 use Rattle.std.proofs.Common.{◌≡◌, length}
-use Rattle.star_program.specs.Text.{Lines.words_of, Said.each}
-use Rattle.star_program.proofs.Text.ListLemmas.{joined}
+use Rattle.star_program.{specs.Text.Lines.words_of, specs.Text.Said.each, proofs.Text.ListLemmas.joined}
 use Rattle.star_program.proofs.spelling.listed.read_each.Given as goal
 
 abbrev pub invariant-loop-word : goal.invariant-loop-word

@@ -1,7 +1,6 @@
 -- The text so far, and what still stands in quotes.
 use Rattle.std.proofs.Common.{◌≡◌, length}
-use Rattle.star_program.specs.Text.Said.{unquoted}
-use Rattle.star_program.proofs.Text.ListLemmas.{joined}
+use Rattle.star_program.{specs.Text.Said.unquoted, proofs.Text.ListLemmas.joined}
 use Rattle.star_program.proofs.spelling.listed.read_unquoted.Given as goal
 
 abbrev pub invariant-loop-byte : goal.invariant-loop-byte

@@ -1,7 +1,6 @@
 -- What was read, and the words still to come.
 use Rattle.std.proofs.Common.{◌≡◌, length}
-use Rattle.star_program.specs.Text.{Lines.words_of, Said.until_colon}
-use Rattle.star_program.proofs.Text.ListLemmas.{joined_front}
+use Rattle.star_program.{specs.Text.Lines.words_of, specs.Text.Said.until_colon, proofs.Text.ListLemmas.joined_front}
 use Rattle.star_program.proofs.spelling.listed.read_until_colon.Given as goal
 
 abbrev pub invariant-loop-word : goal.invariant-loop-word

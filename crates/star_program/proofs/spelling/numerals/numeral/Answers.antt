@@ -4,5 +4,5 @@ use Rattle.star_program.proofs.spelling.numerals.numeral.Goals as goal
 
 pub returns-clause-bound : goal.returns-clause-bound
 returns-clause-bound c =
-    some_below_power c.numeral_value.result (length c.args.word.now) c.args.places
+    some_below_power c.numeral_value.result (length c.args.word.now) c.args.width
     c.numeral_value.ensures.bound (omega arith)

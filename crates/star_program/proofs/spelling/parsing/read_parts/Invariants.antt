@@ -5,10 +5,10 @@ use Rattle.star_program.proofs.spelling.parsing.read_parts.Given as goal
 
 abbrev pub invariant-loop-first : goal.invariant-loop-first
 invariant-loop-first l = record {
-  faults : lines_fault start 1 (lines_of l.text) ≡ lines_fault l.place l.line (lines_of l.rest);
+  faults : lines_fault start 1 (lines_of l.text) ≡ lines_fault l.state l.line (lines_of l.rest);
   says : said_in (lines_of l.text)
-      ≡ map Some (told l.place.stage l.draft) ++ said_in (lines_of l.rest);
-  at : IsAt l.place l.draft;
+      ≡ map Some (told l.state.stage l.draft) ++ said_in (lines_of l.rest);
+  at : IsAt l.state l.draft;
   room : l.line + length l.rest ≤ length l.text + 1;
 }
 

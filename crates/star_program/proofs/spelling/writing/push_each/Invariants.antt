@@ -1,6 +1,5 @@
 -- What was added so far.
-use Rattle.std.proofs.Common.{◌≡◌, ◌++◌, take}
-use Rattle.std.specs.List.{flat_map}
+use Rattle.std.{proofs.Common.{◌≡◌, ◌++◌, take}, specs.List.flat_map}
 use Rattle.star_program.proofs.spelling.writing.push_each.Given as goal
 
 abbrev pub invariant-loop-item : goal.invariant-loop-item

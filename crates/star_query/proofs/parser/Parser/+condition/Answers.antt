@@ -1,7 +1,5 @@
 use Rattle.std.proofs.Common.{◌∙◌, arith}
-use Rattle.star_query.specs.{Symbols.sign, Symbols.keyword, Private.Phrases.lone_conj, Private.Phrases.lone_unit, Private.Machine.unit_wanted, Private.Machine.first_unit, Private.Machine.first_conj, Private.Reads.spot_of, Private.Reads.verdict}
-use Rattle.star_query.specs.declared.token.{Sign.TheVariants.Open, Keyword.TheVariants.Not}
-use Rattle.star_query.proofs.{Tokens.shorter, Descent.opened, Descent.not_opened, Filtering.read_not, Filtering.read_group, Filtering.named_unit, Filtering.one_more_unit, Filtering.one_more_conj}
+use Rattle.star_query.{specs.Symbols.{sign, keyword}, specs.Private.Phrases.{lone_conj, lone_unit}, specs.Private.Machine.{unit_wanted, first_unit, first_conj}, specs.Private.Reads.{spot_of, verdict}, specs.declared.token.Sign.TheVariants.Open, specs.declared.token.Keyword.TheVariants.Not, proofs.Tokens.shorter, proofs.Descent.{opened, not_opened}, proofs.Filtering.{read_not, read_group, named_unit, one_more_unit, one_more_conj}}
 use Rattle.star_query.proofs.parser.Parser.+condition.Goals as goal
 
 pub conjunction-loop-self-init : goal.conjunction-loop-self-init

@@ -1,6 +1,5 @@
 use Rattle.std.proofs.Common.{arith}
-use Rattle.star_query.specs.{Symbols.sign, Private.Phrases.lone_factor, Private.Phrases.lone_term, Private.Machine.factor_wanted, Private.Machine.first_factor, Private.Machine.first_term, Private.Reads.spot_of, Private.Reads.verdict, declared.token.Sign.TheVariants.Open}
-use Rattle.star_query.proofs.{Tokens.shorter, Descent.read_parens, Descent.one_more_factor, Descent.one_more_term, Descent.opened}
+use Rattle.star_query.{specs.Symbols.sign, specs.Private.Phrases.{lone_factor, lone_term}, specs.Private.Machine.{factor_wanted, first_factor, first_term}, specs.Private.Reads.{spot_of, verdict}, specs.declared.token.Sign.TheVariants.Open, proofs.Tokens.shorter, proofs.Descent.{read_parens, one_more_factor, one_more_term, opened}}
 use Rattle.star_query.proofs.parser.Parser.+expression.Goals as goal
 
 pub expression-loop-sign-init : goal.expression-loop-sign-init

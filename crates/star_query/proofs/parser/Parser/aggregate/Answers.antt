@@ -1,5 +1,4 @@
-use Rattle.star_query.specs.Private.{Reads.spot_of, Clauses.ReadsAggregate}
-use Rattle.star_query.proofs.{Queries.read_aggregate, Queries.bad_aggregate, Descent.failed}
+use Rattle.star_query.{specs.Private.Reads.spot_of, specs.Private.Clauses.ReadsAggregate, proofs.Queries.{read_aggregate, bad_aggregate}, proofs.Descent.failed}
 use Rattle.star_query.proofs.parser.Parser.aggregate.Goals as goal
 
 pub returns-clause-reads : goal.returns-clause-reads

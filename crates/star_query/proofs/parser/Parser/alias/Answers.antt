@@ -1,5 +1,4 @@
-use Rattle.star_query.specs.Private.{Reads.spot_of, Clauses.ReadsAlias}
-use Rattle.star_query.proofs.{Queries.read_alias, Queries.read_no_alias, Queries.bad_alias, Descent.failed}
+use Rattle.star_query.{specs.Private.Reads.spot_of, specs.Private.Clauses.ReadsAlias, proofs.Queries.{read_alias, read_no_alias, bad_alias}, proofs.Descent.failed}
 use Rattle.star_query.proofs.parser.Parser.alias.Goals as goal
 
 pub returns-then-take-clause-reads : goal.returns-then-take-clause-reads

@@ -1,5 +1,4 @@
-use Rattle.star_query.specs.Private.Reads.{spot_of}
-use Rattle.star_query.proofs.Filtering.{read_between}
+use Rattle.star_query.{specs.Private.Reads.spot_of, proofs.Filtering.read_between}
 use Rattle.star_query.proofs.parser.Parser.between.Goals as goal
 
 pub returns-clause-reads : goal.returns-clause-reads

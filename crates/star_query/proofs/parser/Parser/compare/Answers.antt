@@ -1,5 +1,4 @@
-use Rattle.star_query.specs.Private.Reads.{spot_of}
-use Rattle.star_query.proofs.Filtering.{read_compare_between, read_compare_related}
+use Rattle.star_query.{specs.Private.Reads.spot_of, proofs.Filtering.{read_compare_between, read_compare_related}}
 use Rattle.star_query.proofs.parser.Parser.compare.Goals as goal
 
 pub returns-then-take-clause-reads : goal.returns-then-take-clause-reads

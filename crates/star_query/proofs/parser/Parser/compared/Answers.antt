@@ -1,5 +1,4 @@
-use Rattle.star_query.specs.Private.Reads.{spot_of}
-use Rattle.star_query.proofs.Filtering.{read_compared}
+use Rattle.star_query.{specs.Private.Reads.spot_of, proofs.Filtering.read_compared}
 use Rattle.star_query.proofs.parser.Parser.compared.Goals as goal
 
 pub returns-clause-reads : goal.returns-clause-reads

@@ -1,5 +1,4 @@
-use Rattle.star_query.specs.Private.{Reads.spot_of, Reads.ReadsNamed, Machine.unit_wanted}
-use Rattle.star_query.proofs.{Filtering.read_comparison, Filtering.bad_comparison, Descent.failed}
+use Rattle.star_query.{specs.Private.Reads.{spot_of, ReadsNamed}, specs.Private.Machine.unit_wanted, proofs.Filtering.{read_comparison, bad_comparison}, proofs.Descent.failed}
 use Rattle.star_query.proofs.parser.Parser.comparison.Goals as goal
 
 pub returns-clause-reads : goal.returns-clause-reads

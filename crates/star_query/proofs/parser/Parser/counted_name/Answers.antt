@@ -1,6 +1,5 @@
 use Rattle.std.proofs.Common.{◌∷◌, []}
-use Rattle.star_query.specs.{Private.Phrases.ident, Views.name_view, Private.Reads.spot_of, Private.Reads.IsName, Private.Reads.NoName, Private.Reads.ReadsName}
-use Rattle.star_query.proofs.{Tokens.no_name_there, Tokens.token_counted, Tokens.token_not_counted, Descent.failed}
+use Rattle.star_query.{specs.Private.Phrases.ident, specs.Views.name_view, specs.Private.Reads.{spot_of, IsName, NoName, ReadsName}, proofs.Tokens.{no_name_there, token_counted, token_not_counted}, proofs.Descent.failed}
 use Rattle.star_query.proofs.parser.Parser.counted_name.Goals as goal
 
 pub returns-in_err-count-clause-reads : goal.returns-in_err-count-clause-reads

@@ -1,6 +1,5 @@
 use Rattle.std.proofs.Common.{◌∷◌, []}
-use Rattle.star_query.specs.{declared.token.Digits.Digits, Symbols.number, Private.Reads.spot_of, Private.Reads.IsNumber, Private.Reads.NoNumber, Private.Reads.ReadsNumber}
-use Rattle.star_query.proofs.{Tokens.no_number_there, Tokens.token_counted, Tokens.token_not_counted, Descent.failed}
+use Rattle.star_query.{specs.declared.token.Digits.Digits, specs.Symbols.number, specs.Private.Reads.{spot_of, IsNumber, NoNumber, ReadsNumber}, proofs.Tokens.{no_number_there, token_counted, token_not_counted}, proofs.Descent.failed}
 use Rattle.star_query.proofs.parser.Parser.counted_number.Goals as goal
 
 pub returns-in_err-count-clause-reads : goal.returns-in_err-count-clause-reads

@@ -1,5 +1,4 @@
-use Rattle.star_query.specs.Private.Reads.{spot_of}
-use Rattle.star_query.proofs.Queries.{bad_end, left_over}
+use Rattle.star_query.{specs.Private.Reads.spot_of, proofs.Queries.{bad_end, left_over}}
 use Rattle.star_query.proofs.parser.Parser.end.Goals as goal
 
 pub returns-then-not-is_empty : goal.returns-then-not-is_empty

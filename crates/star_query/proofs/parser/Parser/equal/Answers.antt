@@ -1,5 +1,4 @@
-use Rattle.star_query.specs.Private.Reads.{spot_of}
-use Rattle.star_query.proofs.Filtering.{read_pair, read_equal}
+use Rattle.star_query.{specs.Private.Reads.spot_of, proofs.Filtering.{read_pair, read_equal}}
 use Rattle.star_query.proofs.parser.Parser.equal.Goals as goal
 
 pub returns-then-is_name-clause-reads : goal.returns-then-is_name-clause-reads

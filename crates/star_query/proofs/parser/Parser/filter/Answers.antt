@@ -1,5 +1,4 @@
-use Rattle.star_query.specs.Private.{Reads.spot_of, Clauses.ReadsFilter}
-use Rattle.star_query.proofs.{Queries.read_filter, Queries.read_no_filter, Queries.bad_filter, Descent.failed}
+use Rattle.star_query.{specs.Private.Reads.spot_of, specs.Private.Clauses.ReadsFilter, proofs.Queries.{read_filter, read_no_filter, bad_filter}, proofs.Descent.failed}
 use Rattle.star_query.proofs.parser.Parser.filter.Goals as goal
 
 pub returns-then-take : goal.returns-then-take

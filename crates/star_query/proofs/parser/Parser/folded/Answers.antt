@@ -1,5 +1,4 @@
-use Rattle.star_query.specs.Private.Reads.{spot_of}
-use Rattle.star_query.proofs.Queries.{read_folded}
+use Rattle.star_query.{specs.Private.Reads.spot_of, proofs.Queries.read_folded}
 use Rattle.star_query.proofs.parser.Parser.folded.Goals as goal
 
 pub returns-clause-reads : goal.returns-clause-reads

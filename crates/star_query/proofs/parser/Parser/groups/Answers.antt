@@ -1,6 +1,5 @@
 use Rattle.std.proofs.Common.{refl}
-use Rattle.star_query.specs.Private.{Phrases.cube, Phrases.rollup, Reads.spot_of, Clauses.ReadsGroups}
-use Rattle.star_query.proofs.{Queries.read_hiding, Queries.read_plain, Queries.bad_plain, Descent.failed}
+use Rattle.star_query.{specs.Private.Phrases.{cube, rollup}, specs.Private.Reads.spot_of, specs.Private.Clauses.ReadsGroups, proofs.Queries.{read_hiding, read_plain, bad_plain}, proofs.Descent.failed}
 use Rattle.star_query.proofs.parser.Parser.groups.Goals as goal
 
 pub returns-then-take : goal.returns-then-take

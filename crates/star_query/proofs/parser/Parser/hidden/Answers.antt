@@ -1,5 +1,4 @@
-use Rattle.star_query.specs.Private.{Reads.spot_of, Clauses.ReadsHidden}
-use Rattle.star_query.proofs.{Queries.read_hidden, Queries.bad_hidden_columns, Queries.bad_hidden_close, Descent.failed}
+use Rattle.star_query.{specs.Private.Reads.spot_of, specs.Private.Clauses.ReadsHidden, proofs.Queries.{read_hidden, bad_hidden_columns, bad_hidden_close}, proofs.Descent.failed}
 use Rattle.star_query.proofs.parser.Parser.hidden.Goals as goal
 
 pub returns : goal.returns

@@ -1,6 +1,5 @@
 use Rattle.std.proofs.Common.{subst, Ok, Option}
-use Rattle.star_query.specs.{Private.Reads.spot_of, Private.Clauses.ReadsFunction, Private.Clauses.ReadsItem, declared.clauses.Function.Function}
-use Rattle.star_query.proofs.{Queries.read_item_name, Queries.bad_item_aggregate, Descent.failed}
+use Rattle.star_query.{specs.Private.Reads.spot_of, specs.Private.Clauses.{ReadsFunction, ReadsItem}, specs.declared.clauses.Function.Function, proofs.Queries.{read_item_name, bad_item_aggregate}, proofs.Descent.failed}
 use Rattle.star_query.proofs.parser.Parser.item.Goals as goal
 
 pub returns-in_ok-name-in-None-clause-reads : goal.returns-in_ok-name-in-None-clause-reads

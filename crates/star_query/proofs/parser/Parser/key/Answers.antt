@@ -1,5 +1,4 @@
-use Rattle.star_query.specs.Private.Reads.{spot_of}
-use Rattle.star_query.proofs.Queries.{read_descending, read_ascending, read_unmarked}
+use Rattle.star_query.{specs.Private.Reads.spot_of, proofs.Queries.{read_descending, read_ascending, read_unmarked}}
 use Rattle.star_query.proofs.parser.Parser.key.Goals as goal
 
 pub returns-then-take-clause-reads : goal.returns-then-take-clause-reads

@@ -1,5 +1,4 @@
-use Rattle.star_query.specs.Private.Reads.{spot_of}
-use Rattle.star_query.proofs.Queries.{read_keys}
+use Rattle.star_query.{specs.Private.Reads.spot_of, proofs.Queries.read_keys}
 use Rattle.star_query.proofs.parser.Parser.keys.Goals as goal
 
 pub returns-then-take : goal.returns-then-take

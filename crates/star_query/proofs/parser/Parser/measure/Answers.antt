@@ -1,5 +1,4 @@
-use Rattle.star_query.specs.Private.Reads.{spot_of}
-use Rattle.star_query.proofs.Queries.{folded_measure, counted_measure}
+use Rattle.star_query.{specs.Private.Reads.spot_of, proofs.Queries.{folded_measure, counted_measure}}
 use Rattle.star_query.proofs.parser.Parser.measure.Goals as goal
 
 pub returns-in-Some-clause-reads : goal.returns-in-Some-clause-reads

@@ -1,5 +1,4 @@
-use Rattle.star_query.specs.Private.Reads.{spot_of, ReadsOperand}
-use Rattle.star_query.proofs.Descent.{read_column, read_constant, read_negative, bad_column, bad_negative, bad_constant, failed}
+use Rattle.star_query.{specs.Private.Reads.{spot_of, ReadsOperand}, proofs.Descent.{read_column, read_constant, read_negative, bad_column, bad_negative, bad_constant, failed}}
 use Rattle.star_query.proofs.parser.Parser.operand.Goals as goal
 
 pub returns-then-is_name-clause-reads : goal.returns-then-is_name-clause-reads

@@ -1,6 +1,5 @@
 use Rattle.std.proofs.Common.{◌∙◌, refl}
-use Rattle.star_query.specs.Private.{Reads.spot_of, Clauses.ReadsQuery, Lists.bad_along}
-use Rattle.star_query.proofs.{Queries.past, Queries.bad_from, Queries.read_query, Descent.failed}
+use Rattle.star_query.{specs.Private.Reads.spot_of, specs.Private.Clauses.ReadsQuery, specs.Private.Lists.bad_along, proofs.Queries.{past, bad_from, read_query}, proofs.Descent.failed}
 use Rattle.star_query.proofs.parser.Parser.query.Goals as goal
 
 pub returns-in_err-items : goal.returns-in_err-items

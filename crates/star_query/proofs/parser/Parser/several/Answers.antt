@@ -1,6 +1,5 @@
 use Rattle.std.proofs.Common.{◌∙◌, ◌∷◌, ◌++◌, [], ap, arith}
-use Rattle.star_query.specs.Private.Reads.{spot_of}
-use Rattle.star_query.proofs.{Tokens.shorter, Queries.comma_passed, Descent.failed}
+use Rattle.star_query.{specs.Private.Reads.spot_of, proofs.Tokens.shorter, proofs.Queries.comma_passed, proofs.Descent.failed}
 use Rattle.star_query.proofs.parser.Parser.several.Goals as goal
 
 pub loop-self-init : goal.loop-self-init

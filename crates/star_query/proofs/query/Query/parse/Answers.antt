@@ -1,8 +1,5 @@
-use Rattle.std.specs.Prelude.{IfErr, MatchResult, Result, length}
-use Rattle.std.proofs.Common.{◌≡◌, ◌∙◌, ℕ, List, map, sym, ap, subst, Err}
-use Rattle.std.proofs.{lemmas.Result.err_from_is_err_and}
-use Rattle.star_query.specs.{declared.token.Token.Token, declared.fault.QueryFault.QueryFault, declared.fault.QueryFault.TheVariants.OutOfMemory, Symbols.symbols, Private.Lexed.placed, Private.TokenFaults.IsTokenFault, Derives.Derives, Derives.IsFirstQueryFault, Tree.Tree, Views.tree_view}
-use Rattle.star_query.proofs.Parsing.{cut_is_memory, fault_of_text, fault_of_tokens, means_tokens, meant, not_read}
+use Rattle.std.{specs.Prelude.{IfErr, MatchResult, Result, length}, proofs.Common.{◌≡◌, ◌∙◌, ℕ, List, map, sym, ap, subst, Err}, proofs.lemmas.Result.err_from_is_err_and}
+use Rattle.star_query.{specs.declared.token.Token.Token, specs.declared.fault.QueryFault.QueryFault, specs.declared.fault.QueryFault.TheVariants.OutOfMemory, specs.Symbols.symbols, specs.Private.Lexed.placed, specs.Private.TokenFaults.IsTokenFault, specs.Derives.{Derives, IsFirstQueryFault}, specs.Tree.Tree, specs.Views.tree_view, proofs.Parsing.{cut_is_memory, fault_of_text, fault_of_tokens, means_tokens, meant, not_read}}
 use Rattle.star_query.specs.declared.tree.Tree as declared
 use Rattle.star_query.proofs.query.Query.parse.Goals as goal
 

@@ -1,5 +1,4 @@
-use Rattle.std.proofs.Common.{◌≡◌, ◌∷◌, [], arith, of_z, to_z, w64}
-use Rattle.std.proofs.{lemmas.Int.ints, lemmas.Int.to_z-of_z, lemmas.List.map-append}
+use Rattle.std.proofs.{Common.{◌≡◌, ◌∷◌, [], arith, of_z, to_z, w64}, lemmas.Int.{ints, to_z-of_z}, lemmas.List.map-append}
 use Rattle.star_schema.specs.Tables.{Number}
 use Rattle.star_reader.proofs.Numerals.{number_cell}
 use Rattle.star_reader.proofs.column.RawColumn.push_cell.Goals as goal

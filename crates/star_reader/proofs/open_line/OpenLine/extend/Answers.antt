@@ -1,5 +1,4 @@
-use Rattle.std.proofs.Common.{◌≤◌, ◌<◌, ◌++◌, ◌∷◌, ℕ, List, [], add-one, append_assoc, arith, get_or, length, take}
-use Rattle.std.proofs.{Math.Seq.take-suc, lemmas.List.take_all}
+use Rattle.std.proofs.{Common.{◌≤◌, ◌<◌, ◌++◌, ◌∷◌, ℕ, List, [], add-one, append_assoc, arith, get_or, length, take}, Math.Seq.take-suc, lemmas.List.take_all}
 use Rattle.star_reader.proofs.open_line.OpenLine.extend.Goals as goal
 
 pub loop-byte-preserved : goal.loop-byte-preserved

@@ -1,6 +1,5 @@
 use Rattle.std.proofs.Common.{refl}
-use Rattle.star_reader.specs.Private.Cut.{EndsInLineEnd, IsBegun}
-use Rattle.star_reader.proofs.{PassedOn.passed_on, PieceSteps.piece_faulty, PieceSteps.piece_on}
+use Rattle.star_reader.{specs.Private.Cut.{EndsInLineEnd, IsBegun}, proofs.PassedOn.passed_on, proofs.PieceSteps.{piece_faulty, piece_on}}
 use Rattle.star_reader.proofs.progress.Progress.read.Goals as goal
 
 pub carry-requires-2 : goal.carry-requires-2

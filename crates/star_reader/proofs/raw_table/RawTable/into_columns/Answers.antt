@@ -1,6 +1,5 @@
 use Rattle.std.proofs.Common.{map, refl}
-use Rattle.star_reader.specs.Columns.{values}
-use Rattle.star_reader.proofs.RowLemmas.{length-first_rows}
+use Rattle.star_reader.{specs.Columns.values, proofs.RowLemmas.length-first_rows}
 use Rattle.star_reader.proofs.raw_table.RawTable.into_columns.Goals as goal
 
 pub returns-clause-columns : goal.returns-clause-columns

@@ -1,12 +1,11 @@
 use Rattle.std.proofs.{Common.sym, Common.◌∙◌, lemmas.Option.slice_get-map}
 use Rattle.star_schema.specs.Tables.{Number}
-use Rattle.star_reader.specs.declared.column.RawColumn.TheVariants.{Numbers}
-use Rattle.star_reader.proofs.ColumnLemmas.{IsColumnAt, column_at, numbers_are, value_there}
+use Rattle.star_reader.{specs.declared.column.RawColumn.TheVariants.Numbers, proofs.ColumnLemmas.{IsColumnAt, column_at, numbers_are, value_there}}
 use Rattle.star_schema.specs.declared.column.Kind.TheVariants as kind
 use Rattle.star_reader.proofs.raw_table.RawTable.numbers.Goals as goal
 
 column : (c : goal.In-Numbers) → IsColumnAt c.self.inside.rows c.self.inside.columns.items
-    c.args.place kind.Number (Numbers c.in-Numbers.numbers)
+    c.args.index kind.Number (Numbers c.in-Numbers.numbers)
 column c =
     rw c.in-Numbers.is at
     (column_at c.self.invariant (rw (← c.self.view_is) at c.requires) c.index.ensures)

@@ -1,12 +1,11 @@
-use Rattle.std.proofs.Common.{ap, ◌∙◌}
-use Rattle.std.specs.Option.{option_map}
+use Rattle.std.{proofs.Common.{ap, ◌∙◌}, specs.Option.option_map}
 use Rattle.star_schema.specs.Tables.{Text}
-use Rattle.star_reader.proofs.RowPlaces.{length-texts_at}
+use Rattle.star_reader.proofs.RowIndexes.{length-texts_at}
 use Rattle.star_reader.proofs.raw_table.RawTable.text.Goals as goal
 
 pub get-requires : goal.get-requires
 get-requires c =
-    rw (c.texts.ensures.texts, length-texts_at c.args.place c.args.self.now.rows)
+    rw (c.texts.ensures.texts, length-texts_at c.args.index c.args.self.now.rows)
     c.requires.row
 
 pub returns : goal.returns

@@ -1,12 +1,11 @@
 use Rattle.std.proofs.{Common.sym, Common.◌∙◌, lemmas.Option.slice_get-map}
 use Rattle.star_schema.specs.Tables.{Text}
-use Rattle.star_reader.specs.declared.column.RawColumn.TheVariants.{Texts}
-use Rattle.star_reader.proofs.ColumnLemmas.{IsColumnAt, column_at, texts_are, value_there}
+use Rattle.star_reader.{specs.declared.column.RawColumn.TheVariants.Texts, proofs.ColumnLemmas.{IsColumnAt, column_at, texts_are, value_there}}
 use Rattle.star_schema.specs.declared.column.Kind.TheVariants as kind
 use Rattle.star_reader.proofs.raw_table.RawTable.texts.Goals as goal
 
 column : (c : goal.In-Texts) → IsColumnAt c.self.inside.rows c.self.inside.columns.items
-    c.args.place kind.Text (Texts c.in-Texts.texts)
+    c.args.index kind.Text (Texts c.in-Texts.texts)
 column c =
     rw c.in-Texts.is at
     (column_at c.self.invariant (rw (← c.self.view_is) at c.requires) c.index.ensures)

@@ -1,10 +1,6 @@
-use Rattle.std.proofs.Common.{◌≡◌, ◌++◌, ◌∷◌, [], None, sym, ◌∙◌, ap, length, arith, refl}
-use Rattle.std.proofs.lemmas.List.{with_items_is}
-use Rattle.std.specs.Vec.{with_items}
-use Rattle.star_reader.specs.Private.Sound.{reading_of}
-use Rattle.star_reader.proofs.ReaderSteps.{none_of, part_fault_on, sound_step, step_faulty, step_fine, still_faulty}
+use Rattle.std.{proofs.Common.{◌≡◌, ◌++◌, ◌∷◌, [], None, sym, ◌∙◌, ap, length, arith, refl}, proofs.lemmas.List.with_items_is, specs.Vec.with_items}
+use Rattle.star_reader.{specs.Private.Sound.reading_of, proofs.ReaderSteps.{none_of, part_fault_on, sound_step, step_faulty, step_fine, still_faulty}, proofs.table_reader.TableReader.end_part.Goals.After-end_part}
 use Rattle.star_reader.proofs.table_reader.TableReader.end_part.Goals as goal
-use Rattle.star_reader.proofs.table_reader.TableReader.end_part.Goals.{After-end_part}
 
 no_fault : (c : After-end_part) → c.self.inside.fault ≡ None
 no_fault c = none_of c.self.inside.fault (sym c.is_some.ensures ∙ c.if-is_some.false)

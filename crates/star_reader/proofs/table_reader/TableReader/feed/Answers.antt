@@ -1,9 +1,5 @@
-use Rattle.std.proofs.Common.{◌≡◌, ◌++◌, None, sym, ◌∙◌, ap, length, arith, refl}
-use Rattle.std.proofs.{lemmas.List.with_items_is}
-use Rattle.std.specs.Vec.{with_items}
-use Rattle.star_reader.specs.Private.Sound.{reading_of}
-use Rattle.star_reader.proofs.ReaderSteps.{none_of, sound_step, step_faulty, step_fine, still_faulty}
-use Rattle.star_reader.proofs.{PieceSteps.fault_on, table_reader.TableReader.feed.Goals.After-read}
+use Rattle.std.{proofs.Common.{◌≡◌, ◌++◌, None, sym, ◌∙◌, ap, length, arith, refl}, proofs.lemmas.List.with_items_is, specs.Vec.with_items}
+use Rattle.star_reader.{specs.Private.Sound.reading_of, proofs.ReaderSteps.{none_of, sound_step, step_faulty, step_fine, still_faulty}, proofs.PieceSteps.fault_on, proofs.table_reader.TableReader.feed.Goals.After-read}
 use Rattle.star_reader.proofs.table_reader.TableReader.feed.Goals as goal
 
 no_fault : (c : After-read) → c.self.inside.fault ≡ None

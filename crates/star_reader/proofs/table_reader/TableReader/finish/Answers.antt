@@ -1,6 +1,5 @@
 use Rattle.std.proofs.Common.{◌∙◌}
-use Rattle.star_reader.specs.Private.Sound.{reading_of}
-use Rattle.star_reader.proofs.ReaderSteps.{fault_answered, table_answered}
+use Rattle.star_reader.{specs.Private.Sound.reading_of, proofs.ReaderSteps.{fault_answered, table_answered}}
 use Rattle.star_reader.proofs.table_reader.TableReader.finish.Goals as goal
 
 pub returns-in-Some-clause-refused : goal.returns-in-Some-clause-refused

@@ -1,7 +1,5 @@
-use Rattle.std.proofs.Common.{◌∙◌, ap, chars, flat_map, rules}
-use Rattle.std.proofs.{lemmas.List.nil_from_length, lemmas.Str.IsUtf8-past_char, lemmas.Str.chars-nil, lemmas.Str.chars_past_char}
-use Rattle.star_service.specs.Names.{printed_letter, printed_name}
-use Rattle.star_service.proofs.NameLemmas.{all_written, one_more}
+use Rattle.std.proofs.{Common.{◌∙◌, ap, chars, flat_map, rules}, lemmas.List.nil_from_length, lemmas.Str.{IsUtf8-past_char, chars-nil, chars_past_char}}
+use Rattle.star_service.{specs.Names.{printed_letter, printed_name}, proofs.NameLemmas.{all_written, one_more}}
 use Rattle.star_service.proofs.names.ShownDisplay.fmt.Goals as goal
 
 pub letters-preserved : goal.letters-preserved

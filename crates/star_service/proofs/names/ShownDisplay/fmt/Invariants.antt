@@ -1,7 +1,5 @@
-use Rattle.std.proofs.Common.{chars, flat_map}
-use Rattle.std.specs.{Fmt.IsPlainFormatter, Str.IsUtf8, Str.Iter.chars_rest}
-use Rattle.star_service.specs.Names.{printed_letter}
-use Rattle.star_service.proofs.NameLemmas.{IsWrittenUpTo}
+use Rattle.std.{proofs.Common.{chars, flat_map}, specs.Fmt.IsPlainFormatter, specs.Str.IsUtf8, specs.Str.Iter.chars_rest}
+use Rattle.star_service.{specs.Names.printed_letter, proofs.NameLemmas.IsWrittenUpTo}
 use Rattle.star_service.proofs.names.ShownDisplay.fmt.Given as goal
 
 abbrev pub invariant-letters : goal.invariant-letters

@@ -1,6 +1,5 @@
 use Rattle.std.proofs.Common.{◌+◌, ◌++◌, ◌∷◌, [], List, map, drop, ap, sym, ◌∙◌}
-use Rattle.star_verify.proofs.Common.{COLUMNS, ColumnId, Reached, append-nil, append_assoc, drop_all, filter, reach_view, reached, with_bounds}
-use Rattle.star_verify.proofs.{Chosen.picked, Chosen.left_out, facts.Facts.reached.Goals.then-has+in_ok-push, facts.Facts.reached.Goals.else-has}
+use Rattle.star_verify.proofs.{Common.{COLUMNS, ColumnId, Reached, append-nil, append_assoc, drop_all, filter, reach_view, reached, with_bounds}, Chosen.{picked, left_out}, facts.Facts.reached.Goals.{then-has+in_ok-push, else-has}}
 use Rattle.star_verify.proofs.facts.Facts.reached.Goals as goal
 
 pub loop-column-preserved : goal.loop-column-preserved

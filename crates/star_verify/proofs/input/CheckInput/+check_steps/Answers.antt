@@ -1,6 +1,5 @@
 use Rattle.std.proofs.Common.{◌≡◌, Err, None, Ok, ◌+◌, ◌*◌, ◌<◌, ◌≤◌, ◌^◌, ap, arith, length, refl, rules, sym, subst, ◌∙◌}
-use Rattle.star_verify.proofs.Common.{AreRecorded, Each, IsFirst, at_end, before, code_of_steps, code_size, err_from_is_err_and, first_reason, flag_at, in_scan, known_in, open_with, scan_reason, size_of, turns_met}
-use Rattle.star_verify.proofs.CheckingSteps.{act_walked, all_checked, code_first, opened_in, one_walked, others, scan_entered, scan_walked, step_refused}
+use Rattle.star_verify.proofs.{Common.{AreRecorded, Each, IsFirst, at_end, before, code_of_steps, code_size, err_from_is_err_and, first_reason, flag_at, in_scan, known_in, open_with, scan_reason, size_of, turns_met}, CheckingSteps.{act_walked, all_checked, code_first, opened_in, one_walked, others, scan_entered, scan_walked, step_refused}}
 use Rattle.star_verify.proofs.input.CheckInput.+check_steps.Goals as goal
 
 pub scan-returns-clause-checked : goal.scan-returns-clause-checked
@@ -14,7 +13,8 @@ scan-returns-clause-checked t c = λ w x pending facts keeps placed marked.
     × AreRecorded parts c.check_steps.new.state (at_end w parts inner k)) c.as_slice.ensures
     (c.in_ok-next.ensures.checked w inner pending facts (c.enter.ensures.kept w parts x keeps)
     (record { inside = refl; met = λ i. placed.met i * sym size i }) marked) in
-    scan_entered (Ok c.in_ok-next.next) c.args.position.at (scan_reason parts x c.args.target) _ _ none (
+    scan_entered (Ok c.in_ok-next.next) c.args.position.at
+    (scan_reason parts x c.args.target) _ _ none (
       walked.0,
       record {
         known = ap known_in (c.in_ok-registers.ensures ∙ c.deref-2.ensures.value) ∙ keeps.known;
@@ -86,8 +86,10 @@ check_steps-returns-clause-checked t c =
 
 pub check_step-returns-in_ok-check_instruction-in-Act-clause-checked :
     goal.check_step-returns-in_ok-check_instruction-in-Act-clause-checked
-check_step-returns-in_ok-check_instruction-in-Act-clause-checked t c = λ w x pending facts keeps placed marked.
-    let checked = c.in_ok-check_instruction-in-Act.ensures.checked w x pending facts keeps placed marked in
+check_step-returns-in_ok-check_instruction-in-Act-clause-checked t c =
+    λ w x pending facts keeps placed marked.
+    let checked = c.in_ok-check_instruction-in-Act.ensures.checked w x pending facts keeps placed
+    marked in
     act_walked w c.args.self.now.parts.now pending x c.args.position.at c.args.step.now
     (code_of_steps c.args.rest.now)
     c.check_instruction.new.state c.in-Act.op c.in-Act.is checked.0 checked.1

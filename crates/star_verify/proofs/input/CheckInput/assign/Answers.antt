@@ -1,6 +1,5 @@
 use Rattle.std.proofs.Common.{ap, arith, length, sym, subst, ◌∙◌}
-use Rattle.star_verify.proofs.Common.{HasShares, IsFirst, both_none, flag_at, known_in, nat_eq, with_entry, with_items_is, ◌||◌}
-use Rattle.star_verify.proofs.CheckingInstructions.{first_found, second_found}
+use Rattle.star_verify.proofs.{Common.{HasShares, IsFirst, both_none, flag_at, known_in, nat_eq, with_entry, with_items_is, ◌||◌}, CheckingInstructions.{first_found, second_found}}
 use Rattle.star_verify.proofs.input.CheckInput.assign.Goals as goal
 
 pub returns-in-Err-clause-checked : goal.returns-in-Err-clause-checked

@@ -1,6 +1,5 @@
 use Rattle.std.proofs.Common.{Ok, ap, arith, length, refl, sym, subst, ◌∙◌}
-use Rattle.star_verify.proofs.Common.{HasKeyShares, HasReason, HasShares, KeepsContext, Op, Put, VerifierState, after_op, code_of_steps, known_in, open_with, option_or, range_reason, source_reason, with_items, with_items_is}
-use Rattle.star_verify.proofs.Positions.{written_same}
+use Rattle.star_verify.proofs.{Common.{HasKeyShares, HasReason, HasShares, KeepsContext, Op, Put, VerifierState, after_op, code_of_steps, known_in, open_with, option_or, range_reason, source_reason, with_items, with_items_is}, Positions.written_same}
 use Rattle.star_verify.proofs.input.CheckInput.perform.Goals as goal
 
 pub returns-in-Put-clause-checked : goal.returns-in-Put-clause-checked

@@ -1,6 +1,5 @@
 use Rattle.std.proofs.Common.{[], ◌∙◌, ap, arith, sym}
-use Rattle.star_verify.specs.Private.Rows.{lesser, rows_of_rest}
-use Rattle.star_verify.proofs.RowLemmas.{agree_lesser, hidden_none, shown_none}
+use Rattle.star_verify.{specs.Private.Rows.{lesser, rows_of_rest}, proofs.RowLemmas.{agree_lesser, hidden_none, shown_none}}
 use Rattle.star_verify.proofs.rows.Front.rows.Goals as goal
 
 pub returns-then-self-clause-rows : goal.returns-then-self-clause-rows

@@ -1,6 +1,5 @@
 use Rattle.std.proofs.Common.{◌∙◌, ◌*◌, ap, subst, sym}
-use Rattle.star_verify.specs.Private.Rows.{AgreeUpTo, lesser}
-use Rattle.star_verify.proofs.RowLemmas.{agree_times}
+use Rattle.star_verify.{specs.Private.Rows.{AgreeUpTo, lesser}, proofs.RowLemmas.agree_times}
 use Rattle.star_verify.proofs.rows.Front.shown.Goals as goal
 
 pub returns-clause-lists : goal.returns-clause-lists

@@ -1,6 +1,5 @@
 use Rattle.std.proofs.Common.{◌≡◌, ◌∙◌, ◌+◌, ◌-◌, ◌*◌, ◌<◌, ◌∷◌, ℕ, suc, ap, arith, drop, get_or, length, subst, sym, take}
-use Rattle.star_verify.proofs.Common.{AgreeUpTo, IsTally, IsTallyAt, Number, each_values, groupings, if◌then◌else◌, possible_values, world_of}
-use Rattle.star_verify.proofs.{Firsts.first_and_others, RowLemmas.groupings_few, RowLemmas.groupings_more, RowLemmas.groupings_some, RowLemmas.one_more}
+use Rattle.star_verify.proofs.{Common.{AgreeUpTo, IsTally, IsTallyAt, Number, each_values, groupings, if◌then◌else◌, possible_values, world_of}, Firsts.first_and_others, RowLemmas.{groupings_few, groupings_more, groupings_some, one_more}}
 use Rattle.star_verify.specs.Private.Rows as spec
 use Rattle.star_verify.proofs.rows.Groupings.+rows_behind.Goals as goal
 

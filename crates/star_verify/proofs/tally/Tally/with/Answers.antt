@@ -1,6 +1,5 @@
 use Rattle.std.proofs.Common.{◌+◌, Some, ◌*◌, ◌^◌, pos, ◌+ℤ◌, FitsSigned, w64, ap, subst, sym, ◌∙◌, arith, rules}
-use Rattle.star_verify.proofs.Common.{corner_range, hull, hull_with, ints, joined_reach, multiple_range, only, range_of, range_same, reach_view, sum_ends, wide_range_of, ◌≤ℤ◌}
-use Rattle.star_verify.proofs.Multiples.{above, below, small_down, small_up}
+use Rattle.star_verify.proofs.{Common.{corner_range, hull, hull_with, ints, joined_reach, multiple_range, only, range_of, range_same, reach_view, sum_ends, wide_range_of, ◌≤ℤ◌}, Multiples.{above, below, small_down, small_up}}
 use Rattle.star_verify.proofs.tally.Tally.with.Goals as goal
 
 pub total-sum-requires-clause-more_low : goal.total-sum-requires-clause-more_low

@@ -1,9 +1,8 @@
-use Rattle.star_group.proofs.Common.{arith, ap, length, subst, group_with, AreRows}
-use Rattle.star_group.proofs.{ArrayPuts.rolled_of, ArrayPuts.rolled_room, Contents.if_ok}
+use Rattle.star_group.proofs.{Common.{arith, ap, length, subst, group_with, AreRows}, ArrayPuts.{rolled_of, rolled_room}, Contents.if_ok}
 use Rattle.star_group.proofs.array_store.store.ArrayStoreGroupStore.into_rows.Goals as goal
 
-pub push_places-requires-clause-keys : goal.push_places-requires-clause-keys
-push_places-requires-clause-keys c =
+pub push_ids-requires-clause-keys : goal.push_ids-requires-clause-keys
+push_ids-requires-clause-keys c =
     let s = c.args.self in
     omega (arith, ap length c.as_slice.ensures.value, s.keys, s.rest.wide, c.reserve.ensures.width)
 
@@ -13,14 +12,14 @@ rows_of_base-requires-clause-key_count c =
       arith,
       c.args.self.rest.wide,
       c.reserve.ensures.width,
-      c.in_ok-push_places.ensures.width,
+      c.in_ok-push_ids.ensures.width,
     )
 
 pub rows_of_base-requires-clause-room : goal.rows_of_base-requires-clause-room
 rows_of_base-requires-clause-room c =
     rolled_room c.args.self c.as_slice-aggregates.ensures.value c.as_slice.ensures.value
     c.as_slice-seen.ensures.value c.as_slice-2.ensures.value c.reserve.ensures.rows
-    c.in_ok-push_places.ensures.rows
+    c.in_ok-push_ids.ensures.rows
 
 pub returns : goal.returns
 returns c =
@@ -31,5 +30,5 @@ returns c =
     c.as_slice-aggregates.ensures.value
     (are puts (rolled_of s c.as_slice-aggregates.ensures.value c.as_slice.ensures.value
     c.as_slice-seen.ensures.value c.as_slice-2.ensures.value c.reserve.ensures.rows
-    c.in_ok-push_places.ensures.rows puts has)))
+    c.in_ok-push_ids.ensures.rows puts has)))
     c.rows_of_base.ensures

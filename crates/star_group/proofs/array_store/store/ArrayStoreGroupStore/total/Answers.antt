@@ -1,5 +1,4 @@
-use Rattle.star_group.proofs.Common.{None, ap, ◌∙◌, get_or, get_or_default, Count, numbers_for, group_view, shown, aggregate_at}
-use Rattle.star_group.proofs.Totals.{shown_held}
+use Rattle.star_group.proofs.{Common.{None, ap, ◌∙◌, get_or, get_or_default, Count, numbers_for, group_view, shown, aggregate_at}, Totals.shown_held}
 use Rattle.star_group.proofs.array_store.store.ArrayStoreGroupStore.total.Goals as goal
 
 pub returns : goal.returns

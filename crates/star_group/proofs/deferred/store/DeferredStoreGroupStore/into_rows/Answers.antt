@@ -1,5 +1,4 @@
-use Rattle.star_group.proofs.Common.{◌≤◌, arith, subst, sym, HasBaseWithRoom, IsBase, entries_of, group_with, AreRows}
-use Rattle.star_group.proofs.{AllRows.base_rolled, AllRows.base_room, Contents.if_ok, KeyedRows.rows_once}
+use Rattle.star_group.proofs.{Common.{◌≤◌, arith, subst, sym, HasBaseWithRoom, IsBase, entries_of, group_with, AreRows}, AllRows.{base_rolled, base_room}, Contents.if_ok, KeyedRows.rows_once}
 use Rattle.star_group.proofs.deferred.store.DeferredStoreGroupStore.into_rows.Goals as goal
 
 pub rows_of_base-requires-clause-room : goal.rows_of_base-requires-clause-room

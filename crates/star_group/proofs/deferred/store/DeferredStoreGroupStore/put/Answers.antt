@@ -1,5 +1,4 @@
-use Rattle.star_group.proofs.{Common.◌∷◌, Rooms.held_stays}
-use Rattle.star_group.specs.Deferred.{group_view}
+use Rattle.star_group.{proofs.Common.◌∷◌, proofs.Rooms.held_stays, specs.Deferred.group_view}
 use Rattle.star_group.proofs.deferred.store.DeferredStoreGroupStore.put.Goals as goal
 
 pub add-requires-clause-room : goal.add-requires-clause-room

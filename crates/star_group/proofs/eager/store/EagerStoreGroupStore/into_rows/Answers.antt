@@ -1,5 +1,4 @@
-use Rattle.star_group.proofs.Common.{sym, subst, AreGrouped, group_with, entries_of, AreRows}
-use Rattle.star_group.proofs.{Contents.if_ok, KeyedRows.rows_once}
+use Rattle.star_group.proofs.{Common.{sym, subst, AreGrouped, group_with, entries_of, AreRows}, Contents.if_ok, KeyedRows.rows_once}
 use Rattle.star_group.proofs.eager.store.EagerStoreGroupStore.into_rows.Goals as goal
 
 pub returns : goal.returns

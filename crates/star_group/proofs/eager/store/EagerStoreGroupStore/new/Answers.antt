@@ -4,5 +4,5 @@ use Rattle.star_group.proofs.eager.store.EagerStoreGroupStore.new.Goals as goal
 pub returns-clause-empty : goal.returns-clause-empty
 returns-clause-empty c = record {
   grouped = no_rows _ _ c.in_ok-rows.ensures.empty;
-  total = λ place h. nothing_none _ c.new-2.ensures place ∙ sym (held_none _);
+  total = λ index h. nothing_none _ c.new-2.ensures index ∙ sym (held_none _);
 }

@@ -1,6 +1,4 @@
-use Rattle.star_group.proofs.Common.{⊎_elim, sym, ◌∙◌, true≢false, rules, Update}
-use Rattle.star_group.specs.Eager.{group_view}
-use Rattle.star_group.proofs.Rooms.{room_stays}
+use Rattle.star_group.{proofs.Common.{⊎_elim, sym, ◌∙◌, true≢false, rules, Update}, specs.Eager.group_view, proofs.Rooms.room_stays}
 use Rattle.star_group.proofs.eager.store.EagerStoreGroupStore.put.Goals as goal
 
 pub unreachable-requires : goal.unreachable-requires

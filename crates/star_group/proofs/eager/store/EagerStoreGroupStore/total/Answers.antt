@@ -1,6 +1,4 @@
-use Rattle.star_group.proofs.Common.{None, ap, ◌∙◌, get_or, get_or_default, Count, numbers_for, shown, aggregate_at}
-use Rattle.star_group.specs.Eager.{group_view}
-use Rattle.star_group.proofs.Totals.{shown_held}
+use Rattle.star_group.{proofs.Common.{None, ap, ◌∙◌, get_or, get_or_default, Count, numbers_for, shown, aggregate_at}, specs.Eager.group_view, proofs.Totals.shown_held}
 use Rattle.star_group.proofs.eager.store.EagerStoreGroupStore.total.Goals as goal
 
 pub returns : goal.returns

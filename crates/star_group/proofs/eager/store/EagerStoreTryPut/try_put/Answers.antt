@@ -1,7 +1,4 @@
-use Rattle.star_group.proofs.Common.{◌≡◌, ◌≢◌, ◌∙◌, false, refl, inl, inr, ap, arith, length, map, rules, subst, sym, ⊎_elim, IsDistinct, filter, MatchBool-at_false, MatchBool-at_true, AllPairs-filter, AllPairs-from_IsDistinct, IsDistinct-from_AllPairs, err_from_is_err_and, Update, SomeLeaves}
-use Rattle.star_group.proofs.Common.{key_view, row_found, entries_of, key_eq, padded, vary, is_row_key}
-use Rattle.star_group.proofs.Contents.{base_keys, put_has, put_leaves, put_stays}
-use Rattle.star_group.proofs.{BaseKeyLemmas.vary_distinct, GroupKeys.key_decides, KeyedRows.row_keys_narrow}
+use Rattle.star_group.proofs.{Common.{◌≡◌, ◌≢◌, ◌∙◌, false, refl, inl, inr, ap, arith, length, map, rules, subst, sym, ⊎_elim, IsDistinct, filter, MatchBool-at_false, MatchBool-at_true, AllPairs-filter, AllPairs-from_IsDistinct, IsDistinct-from_AllPairs, err_from_is_err_and, Update, SomeLeaves, key_view, row_found, entries_of, key_eq, padded, vary, is_row_key}, Contents.{base_keys, put_has, put_leaves, put_stays}, BaseKeyLemmas.vary_distinct, GroupKeys.key_decides, KeyedRows.row_keys_narrow}
 use Rattle.star_group.proofs.eager.store.EagerStoreTryPut.try_put.Goals as goal
 
 pub fill_row_keys-requires : goal.fill_row_keys-requires
@@ -31,7 +28,11 @@ put_rows-requires-clause-narrow c =
 pub returns-then-not-stays-clause-overflow : goal.returns-then-not-stays-clause-overflow
 returns-then-not-stays-clause-overflow c =
     let leaves : c.stays.result ≡ false = search rules in
-    inr (put_leaves c.args.self.now (record { keys = c.args.keys.now; values = c.args.values.now }) _ _
+    inr (put_leaves c.args.self.now (record {
+      keys = c.args.keys.now;
+      values =
+          c.args.values.now;
+    }) _ _
     c.as_slice-aggregates.ensures.value c.row_of_put-more.ensures c.requires.keys
     (inl (MatchBool-at_false _ _ leaves c.stays.ensures)))
 

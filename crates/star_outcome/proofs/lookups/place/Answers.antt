@@ -1,5 +1,0 @@
-use Rattle.std.proofs.Common.{rules}
-use Rattle.star_outcome.proofs.lookups.place.Goals as goal
-
-pub returns-in-Low : goal.returns-in-Low
-returns-in-Low c = search rules
