@@ -13,7 +13,7 @@ use Rattle.star_statements.specs.{Blanks.without_blanks, Questions.asked_by_text
 use Rattle.star_statements.specs.{declared.sources.ReadFault.TheVariants.OutOfMemory as NoMemory}
 use Rattle.star_engine.specs.{declared.fault.EngineFault.TheVariants.{Load, OutOfMemory, Plan, Program, Query, Refused, Trial, Write}, Queries.{IsExplained, IsQueryError, IsQueryQuote, IsQueryQuoteOver, IsQueryRun, IsQueryRunError, IsQueryRunErrorOver, IsQueryRunOver}, declared.fault.EngineFault.EngineFault, Answered.{Change, HasGained, HasGainedPart, IsAnswered, OrMemory}, Bench.{AllFit, IsBench}, Executions.{IsQuoteOf, IsRunOf, IsRunError}, Loads.{IsLoadError, Loaded, loaded_of}, QuoteTexts.{IsQuoteErrorOver, IsQuoteTextOver}, RunTexts.IsForecastOver, WithNotes.IsAnsweredWithNotes}
 use Rattle.star_service.specs.{Reports.{AreAllJobsForecast, AreAllJobsRun, AreJobsForecast, AreJobsRun, IsForecastLine, IsJobForecast, IsJobRun, IsRefusedLine, IsReportStored, IsReportUnstored, named_line}, Sessions.{AreAllAnswered, AreRounds, AreStatementsRun, IsAnswerTo, IsLineEnded, IsReportEnded, IsReported, IsRound, IsSession, IsSessionEnded, IsStatementUnread, IsStepEnded, IsUnwritten, may_go_on, parting_of}, ReportSinks.{Adds, HasFailedAt, HasStoredNone, IsStoreError, StoredReport, HaveSameReports, SinkChange, sink_change}, Lines.{IsFaultPrinted, IsTextPrinted, fault_line, fault_status}, declared.reports.Halt.Halt, declared.reports.ReportJob.ReportJob, declared.sessions.Stop.TheVariants.{Unread, Unwritten}}
-use Rattle.star_cli.specs.{Answers.{IsBenched, IsEnded, IsExecuted, IsExplanation, IsGivenOf, IsListed, IsListedAndBenched, IsNoneRefused, IsOfTables, IsQueried, IsQuoted, IsTried, none_refused}, Failures.{AreReportsEnded, IsFailurePrinted, IsPrintedOn, IsTextOf, failure_of_halt, status_of}, FolderLoads.{AreTablesUnread, IsFolderRefused, IsFolderUnread, IsLoadedFrom, IsThere}, Stores.{AreTablesIn, ArePartsFrom, IsAt, IsFile, IsGivenFile, IsTableFile, IsTextIn, IsWhole, AreParts, Known, part_name, path_in, table_name}}
+use Rattle.star_cli.specs.{Answers.{IsBenched, IsEnded, IsExecuted, IsExplanation, IsGivenOf, IsListed, IsListedAndBenched, IsNoneRefused, IsOfTables, IsQueried, IsQuoted, IsTried, none_refused}, Failures.{AreReportsEnded, IsFailurePrinted, IsPrintedOn, IsTextOf, failure_of_halt, status_of}, FolderLoads.{AreTablesUnread, IsFolderRefused, IsFolderUnread, IsLoadedFrom}, Stores.{AreTablesIn, ArePartsFrom, IsAt, IsFile, IsGivenFile, IsTableFile, IsTextIn, IsWhole, AreParts, Known, part_name, path_in, table_name}}
 use Rattle.star_examples.proofs.EngineAnswers.{Answer, Sink, grown, of_load, report, untouched, well}
 use Rattle.star_query.specs.declared.fault.QueryFault.TheVariants as parsing
 use Rattle.star_words.specs.declared.request.Task.TheVariants as task

@@ -9,3 +9,9 @@ mod Programs
 mod LoadFaults
 mod EngineAnswers
 mod CommandAnswers
+mod Requests
+mod Commands
+mod Moments
+mod ProgramTexts
+mod Merges
+mod ErrorTexts

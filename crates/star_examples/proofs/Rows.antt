@@ -9,7 +9,6 @@ use Rattle.star_query_meaning.specs.Rows.{is_true, product, selected, tables_of,
 use Rattle.star_compile_laws.proofs.PlanWords.{compare, between, summed, least, greatest}
 use Rattle.star_examples.proofs.Sample.{number, below_zero, text, sample, revenue, cost, discount}
 use Rattle.star_schema.specs.Tables as of_table
-use Rattle.star_query.specs.Tree as tree
 use Rattle.star_examples.proofs.QueryTests as words
 
 -- ---- which rows a condition holds of

@@ -182,7 +182,10 @@ words_spelled : Gives expression_is_spelled ((column a, true) ∷ (column hyphen
     ∷ (or bad good, false) ∷ (or good bad, false) ∷ (and bad good, false) ∷ (and good bad, false)
     ∷ (not bad, false) ∷ [])
     × Gives where_is_spelled ((Some good, true) ∷ (Some bad, false) ∷ (None, true) ∷ [])
+    × Gives item_operands ((plain a, 0) ∷ (of count 0, 0)
+    ∷ (under (fold Sum (add long long)) 0 a, 2) ∷ [])
+    × Gives aggregates_in ((plain a, 0) ∷ (of count 0, 1) ∷ [])
     × Gives item_is_spelled ((plain a, true) ∷ (plain hyphened, false) ∷ (of count 0, true)
     ∷ (of (fold Sum long) 0, false) ∷ (under count 0 hyphened, false) ∷ [])
 unfolding is_name has_few_digits is_printable_text
-words_spelled = (refl, refl, refl, refl)
+words_spelled = (refl, refl, refl, refl, refl, refl)
