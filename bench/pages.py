@@ -57,8 +57,9 @@ def cases_of(pages: list[str]) -> Iterator[list[Step]]:
 
 @contextmanager
 def folder_of_case(program: str) -> Iterator[str]:
-    """Makes a folder for a case, with the examples and the program, and removes it afterwards."""
+    """Makes a folder for a case, with the examples, the program and the parts of `./star`, and removes it afterwards."""
     with tempfile.TemporaryDirectory(prefix="star-cases-") as folder:
         shutil.copytree(TOP / "examples", f"{folder}/examples")
         os.symlink(os.path.abspath(program), f"{folder}/star")
+        os.symlink(TOP / "terminal", f"{folder}/terminal")
         yield folder
