@@ -20,8 +20,10 @@ def nearest(program: str, number: str, word: str, text: str) -> list[str]:
 
 
 def show(name: str, text: str, line: int, column: int) -> None:
-    """Prints a line of a text, with a caret below a column of it; both count from 1."""
-    print(f"{name}:{line}:{column}\n  {(text.split(chr(10)) + [''])[line - 1]}\n  {' ' * (column - 1)}^")
+    """Prints a line of a text, with a caret below a column of it; both count from 1. Other bytes than ASCII are `?`."""
+    shown = re.sub(r"[^\t -~]", "?", (text.split("\n") + [""])[line - 1].rstrip("\r"))
+    before = re.sub(r"[^\t]", " ", shown[: column - 1]).ljust(column - 1)
+    print(f"{name}:{line}:{column}\n  {shown}\n  {before}^")
 
 
 def show_query_error(program: str, name: str, text: str, error: str) -> bool:
