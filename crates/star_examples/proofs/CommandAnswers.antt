@@ -30,7 +30,7 @@ statuses : Gives fault_status ((Refused (TooCostly 10), 1) ∷ (Trial Limit, 1)
     ∷ (Err (Write 3), Err (Write 3)) ∷ [])
 statuses = (refl, refl, refl)
 
--- ---- what is printed: a text, a fault with its own status or want of memory with that, and a failure
+-- ---- what is printed: a text, a fault with its own status or out of memory, and a failure
 
 module _ {S E : Type 0} (out : Change S) (err : Change E) (text : List ℕ) (status : ℕ)
     (fault : EngineFault) (halt : Halt) where
@@ -122,7 +122,7 @@ module _ (folder path : Bor (List ℕ)) (limits : Limits) (loaded : Loaded) wher
       × (loaded ≡ loaded_of most_rows most_visits texts)))
   folders = (refl, refl, refl, refl, λ known name. refl)
 
--- ---- the files of a folder, by name: a table, lineorder's parts in order, the first that is unread
+-- ---- the files of a folder, by name: a table, lineorder's parts in order, the first unread
 
 files : Gives (path_in (codes "d")) ((table_name Customer, codes "d/customer.tbl")
     ∷ (table_name Lineorder, codes "d/lineorder.tbl") ∷ (part_name 12, codes "d/lineorder.tbl." ++ decimal 12) ∷ [])

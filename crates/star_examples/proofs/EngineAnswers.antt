@@ -78,8 +78,8 @@ module _ {S N A : Type 0} (out : Change S) (notes : Change N) (IsText : List ℕ
       ≡ IsAnsweredWithNotes out notes IsText IsRun Due (Err OutOfMemory))
   clauses_of_a_run = (refl, refl, refl, refl, refl, refl)
 
--- ---- a program's file and a query's: a word that goes on, an upper case letter and a space before it
--- make no program
+-- ---- a program's file and a query's: a word that goes on, an upper case letter and a space before
+-- it make no program
 
 abbrev a_program : List ℕ
 a_program = codes "star program 1\n"

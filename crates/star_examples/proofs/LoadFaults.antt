@@ -76,8 +76,8 @@ faults_of_tables : Gives (fault_of_read Part) (
     ∷ (read.BadNumber 3 2, BadNumber Part 3 2) ∷ [])
 faults_of_tables = refl
 
--- ---- five tables: the first record with a key that isn't there, and of its keys the first column; a
--- column that refers to no table is never absent; and the limit is that of the rows of each table
+-- ---- five tables: the first record with a key that isn't there, and of its keys the first column;
+-- a column that refers to no table is never absent; and the limit is that of the rows of each table
 
 foreign : Gives (λ c. foreign_key_fault five 4 [] c)
     ((LoTax, None) ∷ (LoOrderdate, Some (AbsentKey 4 LoOrderdate)) ∷ [])

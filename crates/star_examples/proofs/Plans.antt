@@ -66,8 +66,8 @@ joins_sound : Gives are_distinct ((dated, true) ∷ (by_order ∷ of_part ∷ []
 unfolding column_of
 joins_sound = (refl, refl, refl)
 
--- ---- joins: neither of two columns that are a key together is one by itself; two columns that make
--- no join join no table
+-- ---- joins: neither of two columns that are a key together is one by itself; two columns that
+-- make no join join no table
 
 pairs : (at : _) → (is_lone_key LoOrderkey (Two LoOrderkey LoLinenumber) ≡ false)
     × (joins Date None ≡ false)

@@ -32,8 +32,8 @@ accepted : (d : Database) (parts : Parts) → IsAcceptedOver d parts → IsSound
     × (quote (world_of d).size parts ≤ 10 ^ 15)
 accepted d parts a = (a.sound, a.limits, a.admissible, a.cheap)
 
--- ---- the ranges of a report: 2 and 3 are put into the second of two groups, which is reported; a put
--- may come never, so that a sum's range has 0 in it
+-- ---- the ranges of a report: 2 and 3 are put into the second of two groups, which is reported; a
+-- put may never happen, so a sum's range has 0 in it
 
 abbrev sums : GroupDecl
 sums = record { shape = Plain; keys = []; aggregates = Sum ∷ Sum ∷ [] }

@@ -107,8 +107,8 @@ expressions : Gives (number_with (λ c. joined_value c mail)) (
 unfolding column_of columns_of position_of pieces
 expressions = (refl, refl, refl)
 
--- ---- by a query's own words: the product of FROM's tables, every row of the first with every row of
--- the second, filtered by WHERE; the rows of a plan are the same by a law
+-- ---- by a query's own words: the product of FROM's tables, every row of the first with every row
+-- of the second, filtered by WHERE; the rows of a plan are the same by a law
 
 abbrev seen : List ColumnId → List Joined → List (List Value)
 seen columns rows = map (λ row. map (λ c. joined_value c row) columns) rows

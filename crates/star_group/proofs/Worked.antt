@@ -166,8 +166,8 @@ content_aggregates : Gives2 (λ ks index. group_aggregate ks index puts) (
 unfolding group_aggregate held
 content_aggregates = (refl, refl, refl, refl)
 
--- ---- the positions of keys that lie in ranges, the numbers from -1 to 2 and the codes 5 and 6; that of
--- the first key counts by one
+-- ---- the positions of keys that lie in ranges, the numbers from -1 to 2 and the codes 5 and 6;
+-- that of the first key counts by one
 
 abbrev numbers : Span
 numbers = record {
@@ -202,8 +202,8 @@ key_ids : Gives2 offset_of ((numbers, Number (negsuc 1), None)
     × IsOf coded (declared.Text PBrand1)
 key_ids = (refl, refl, refl, refl, refl, refl)
 
--- ---- batches: the word of a register is in its vector of 1,024; a COUNT is 1, and the others take the
--- registers in turn; puts come newest first
+-- ---- batches: the word of a register is in its vector of 1,024; a COUNT is 1, and the others take
+-- the registers in turn; puts come newest first
 
 abbrev vectors : List ℤ
 vectors = replicate 1024 (pos 7) ++ (pos 8 ∷ pos 9 ∷ [])

@@ -24,7 +24,7 @@ bits : Gives is_i64 ((pos 9223372036854775807, true) ∷ (negsuc 922337203685477
 unfolding is_i64 is_i128
 bits = (refl, refl, refl)
 
--- ---- ranges that are made; the least and the greatest result are at each of the four pairs of ends
+-- ---- ranges that are made; the least and the greatest result at each of the four pairs of ends
 
 made : (hull (from_to (negsuc 1) (pos 3)) (from_to (pos 0) (pos 2)) ≡ from_to (negsuc 1) (pos 3))
     × (hull (from_to (pos 0) (pos 2)) (from_to (negsuc 1) (pos 3)) ≡ from_to (negsuc 1) (pos 3))

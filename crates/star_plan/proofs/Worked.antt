@@ -76,8 +76,8 @@ joined : Gives where_pairs ((
 unfolding column_of column_called
 joined = (refl, refl)
 
--- ---- items: a group column by its position, and an aggregate by how many come before it; names are
--- numbered from 1, one with a name of its own among them
+-- ---- items: a group column by its position, and an aggregate by how many come before it; names
+-- are numbered from 1, one with a name of its own among them
 
 abbrev counted : ℕ → Option Name → Item
 counted at name = aggregate (record { measure = count; offset = at; name = name })

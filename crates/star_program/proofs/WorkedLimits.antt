@@ -10,8 +10,8 @@ use Rattle.star_program.specs.declared.outcome.Cell.TheVariants as cell
 use Rattle.star_program.specs.declared.outcome.CellView.TheVariants as lent
 use Rattle.star_program.specs.declared.value.Kind.TheVariants as kind
 
--- ---- limits, and worlds that are loaded: a column's bounds hold its numbers, and each code is less
--- than how many texts there are
+-- ---- limits, and worlds that are loaded: a column's bounds hold its numbers, and each code is
+-- less than how many texts there are
 
 small : (group : GroupDecl)
     → IsSmall group ↔ ((length group.keys ≤ 6) × (length group.aggregates ≤ 8))

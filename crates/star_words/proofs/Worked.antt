@@ -95,8 +95,8 @@ module _ (folder file : Bor Word) (limits : Limits) where
   rows : HasMostRows (Answer (Trial folder file limits)) ≡ (limits.rows ≡ most_rows)
   rows = refl
 
--- ---- lines and statuses; what the parser of words lets not pass has its own text, and its status by
--- its kind, and want of memory is as any other
+-- ---- lines and statuses; what the parser of words lets not pass has its own text, and its status
+-- by its kind, and want of memory is as any other
 
 lines : Gives words_fault_text (
     (NotText, Some (codes "error: a word is not UTF-8\n"))

@@ -328,7 +328,7 @@ pub(crate) const FAULTS: Help = Help {
         "  refused 63 WrongKind at 3\n",
         "      give the instruction a register of the kind that it takes\n",
         "  refused 64 BadColumn at 3\n",
-        "      load through a row of the column's table; ask positions of a column of texts\n",
+        "      load through a row of the column's table; take positions only of a column of texts\n",
         "  refused 65 NotAForeignKey at 3\n",
         "      find by a number loaded from a foreign key to that table\n",
         "  refused 66 BadGroup at 3\n",

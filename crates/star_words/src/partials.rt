@@ -32,8 +32,8 @@ pub(crate) const MERGE: Help = Help {
     about: "Prints the report of a query over all parts of lineorder, merged from partials",
     after: concat!(
         "No table is read. The output is that of `star query` over a folder with all parts: the report, the two\n",
-        "lines of standard error, or the refusal. FILE has the bytes that it had for `star partial`. Partials may\n",
-        "come in any order. They are refused if they are over other dimensions, or if the keys (lo_orderkey,\n",
+        "lines of standard error, or the refusal. FILE must have the same bytes as for `star partial`. Partials\n",
+        "may come in any order. They are refused if they are over other dimensions, or if the keys (lo_orderkey,\n",
         "lo_linenumber) of two of them overlap. With --distinct overlaps are allowed: the caller promises that no\n",
         "order line is in two parts.\n",
         "\nExample:\n  star merge examples/revenue.sql 0.partial\n",
