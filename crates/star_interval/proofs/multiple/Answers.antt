@@ -4,3 +4,6 @@ use Rattle.star_interval.proofs.multiple.Goals as goal
 
 pub returns : goal.returns
 returns c = grind (arith, common_steps)
+
+pub overflow_mul-result : goal.overflow_mul-result
+overflow_mul-result c = grind (arith, common_steps)

@@ -1,0 +1,9 @@
+-- Both factors widen to themselves, and their product fits.
+use Rattle.std.proofs.{Common.arith, lemmas.Grind.common_steps}
+use Rattle.star_interval.proofs.product.Goals as goal
+
+pub returns : goal.returns
+returns c = grind (arith, common_steps)
+
+pub overflow_mul-result : goal.overflow_mul-result
+overflow_mul-result c = grind (arith, common_steps)
