@@ -145,6 +145,15 @@ fn push_to<W: SignedWord>(words: &mut Vec<W>, number: i64) -> Result<bool, Alloc
     }
 }
 
+/// The number at a position, from 0.
+#[inline(always)]
+fn one_in<W: SignedWord>(words: &[W], index: usize) -> i64
+    requires { index < length words.now }
+    ensures { slice_get (map W.number words.now) index ≡ Some result }
+{
+    words[index].value()
+}
+
 /// The numbers at a position, from 0, and at the next one.
 #[inline(always)]
 fn two_in<W: SignedWord>(words: &[W], index: usize) -> (i64, i64)
@@ -152,7 +161,7 @@ fn two_in<W: SignedWord>(words: &[W], index: usize) -> (i64, i64)
     ensures first { slice_get (map W.number words.now) index ≡ Some result.0 }
     ensures second { slice_get (map W.number words.now) (index + 1) ≡ Some result.1 }
 {
-    (words[index].value(), words[index + 1].value())
+    (one_in(words, index), one_in(words, index + 1))
 }
 
 /// The same numbers in words that can be every number that they could.
@@ -189,10 +198,10 @@ impl SignedWords {
         ensures { slice_get (numbers_in self.now) index ≡ Some result }
     {
         match self {
-            SignedWords::Bits8(words) => words[index].value(),
-            SignedWords::Bits16(words) => words[index].value(),
-            SignedWords::Bits32(words) => words[index].value(),
-            SignedWords::Bits64(words) => words[index].value(),
+            SignedWords::Bits8(words) => one_in(words.as_slice(), index),
+            SignedWords::Bits16(words) => one_in(words.as_slice(), index),
+            SignedWords::Bits32(words) => one_in(words.as_slice(), index),
+            SignedWords::Bits64(words) => one_in(words.as_slice(), index),
         }
     }
 
