@@ -4,15 +4,8 @@ use Rattle.star_program.specs.{Text.FirstFaults.{advance, end_in, is_within, lin
 
 -- a state by its parts
 abbrev pub state : Stage → ℕ → ℕ → ℕ → ℕ → ℕ → TextState
-state st g i dp sh so = record {
-  stage = st;
-  groups = g;
-  instructions = i;
-  depth = dp;
-  shows =
-      sh;
-  sorts = so;
-}
+state st g i dp sh so =
+    record { stage = st; groups = g; instructions = i; depth = dp; shows = sh; sorts = so }
 
 pub within_from : (p : TextState) → is_within p ≡ true → IsWithinLargest p
 unfolding is_within

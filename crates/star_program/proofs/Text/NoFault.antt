@@ -1,10 +1,10 @@
 -- A text that spells a program within the limits has no fault.
 use Rattle.std.{specs.Prelude.{codes, filter, nat_lt, not}, specs.Cmp.Lexicographic.bytes_decides, specs.Option.option_map, proofs.Common.{◌≡◌, ◌&&◌, ◌≤◌, ◌+◌, ◌-◌, ◌∙◌, ◌∷◌, ◌++◌, [], ℕ, true, false, List, Option, Some, None, Ok, All, append_assoc, length, map, arith, ap, refl, sym, subst, inl, inr, lit≤}, proofs.lemmas.Bool.{cases_Bool, eqb-true, eq-eqb, le-leb, ne_eqb}, proofs.lemmas.List.Elements.{All-head, All-tail}}
-use Rattle.star_program.{specs.Code.{Code, Stop, Then, Each, code_size, scan_depth}, specs.Private.Drafts.{code_says, groups_say}, specs.Text.Keywords.{keyword_name, keyword_of, same}, specs.Limits.{IsSmall, IsWithinLimits}, specs.Text.Lines.{is_blank_line, lines_of, words_of}, specs.Text.Numerals.count_of, specs.Text.Said.{by_keyword, by_words, from_one_word, said}, specs.Text.Spelling.{Spells, program_statements}, specs.Text.FirstFaults.{advance, after_in, begins_report, end_in, is_small, is_within, lines_fault, state_after, state_after_step, program_text_fault, start}, specs.declared.group.GroupDecl.GroupDecl, specs.declared.op.Op.Op, specs.declared.program.Parts.Parts, specs.declared.program.Show.Show, specs.declared.spelling.text_state.TextState.TextState, specs.declared.spelling.text_state.Stage.Stage, specs.declared.spelling.statement.Statement.Statement, proofs.Text.Depths.{larger, left_within, right_within}, proofs.Text.OneProgram.{program_said, tail_of}, proofs.Text.FaultLemmas.{advanced, blank_line, ended, state, text_fault_is}}
+use Rattle.star_program.{specs.Code.{Code, Stop, Then, Each, code_size, scan_depth}, specs.Private.Drafts.{code_says, groups_say}, specs.Text.Keywords.{keyword_name, keyword_of, same}, specs.Limits.{IsSmall, IsWithinLimits}, specs.Text.Lines.{is_blank_line, lines_of, words_of}, specs.Text.Numerals.count_of, specs.Text.Said.{by_keyword, by_words, from_one_word, said}, specs.Text.Spelling.{Spells, program_statements}, specs.Text.FirstFaults.{advance, after_in, begins_report, end_in, is_small, is_within, lines_fault, state_after, state_after_step, program_text_fault, start}, specs.declared.group.GroupDecl.GroupDecl, specs.declared.program.Parts.Parts, specs.declared.program.Show.Show, specs.declared.spelling.text_state.TextState.TextState, specs.declared.spelling.text_state.Stage.Stage, specs.declared.spelling.statement.Statement.Statement, proofs.Text.Depths.{larger, left_within, right_within}, proofs.Text.OneProgram.{program_said, tail_of}, proofs.Text.FaultLemmas.{advanced, blank_line, ended, state, text_fault_is}}
 use Rattle.star_program.specs.declared.spelling.keyword.Keyword.TheVariants as keyword
 use Rattle.star_program.specs.declared.spelling.text_state.Stage.TheVariants as stage
 use Rattle.star_program.specs.declared.spelling.statement.Statement.TheVariants as says
-use Rattle.star_schema.specs.declared.{group.SortKey.SortKey, table.TableId.TableId}
+use Rattle.star_schema.specs.declared.group.SortKey.{SortKey}
 
 -- ---- a report stands in no scan
 
@@ -117,18 +117,6 @@ walk_groups (group ∷ gs) g m is room small = (
 abbrev Steps : TextState → Statement → TextState → Type 0
 Steps p s q = (state_after_step p s ≡ Some q) × (is_within q ≡ true) × (is_small s ≡ true)
 
-act_follows : (st : Stage) (g i dp : ℕ) (op : Op) → g ≤ 8 → i + 1 ≤ 4096 → dp ≤ 3
-    → Steps (state st g i dp 0 0) (says.Act op) (state stage.Body g (i + 1) dp 0 0)
-unfolding is_small
-act_follows st g i dp op a b c =
-    (refl, within_is stage.Body g (i + 1) dp 0 0 a b c (lit≤ tt) (lit≤ tt), refl)
-
-scan_follows : (st : Stage) (g i dp : ℕ) (t : TableId) (r : ℕ) → g ≤ 8 → i + 1 ≤ 4096 → dp + 1 ≤ 3
-    → Steps (state st g i dp 0 0) (says.Scan t r) (state stage.Body g (i + 1) (dp + 1) 0 0)
-unfolding is_small
-scan_follows st g i dp t r a b c =
-    (refl, within_is stage.Body g (i + 1) (dp + 1) 0 0 a b c (lit≤ tt) (lit≤ tt), refl)
-
 end_follows : (g i dp : ℕ) → g ≤ 8 → i ≤ 4096 → dp + 1 ≤ 3
     → Steps (state stage.Body g i (dp + 1) 0 0) says.End (state stage.Body g i dp 0 0)
 unfolding is_small
@@ -137,11 +125,15 @@ end_follows g i dp a b c = grind (arith, ne_eqb, within_is, lit≤)
 -- a body after one of its steps
 walk_body : (c : Code) (g i dp m : ℕ) → i + code_size c ≡ m → m ≤ 4096 → dp + scan_depth c ≤ 3
     → g ≤ 8 → Walks (state stage.Body g i dp 0 0) (code_says c) (state stage.Body g m dp 0 0)
-unfolding state_after
+unfolding state_after is_small
 walk_body Stop g i dp m is room nested few = let same : i ≡ m = omega arith in rw same refl
 walk_body (Then op rest) g i dp m is room nested few = (
   state stage.Body g (i + 1) dp 0 0,
-  act_follows stage.Body g i dp op few (omega arith) (omega arith),
+  (
+    refl,
+    within_is stage.Body g (i + 1) dp 0 0 few (omega arith) (omega arith) (lit≤ tt) (lit≤ tt),
+    refl,
+  ),
   walk_body rest g (i + 1) dp m (omega arith) room nested few,
 )
 walk_body (Each t r body rest) g i dp m is room nested few =
@@ -154,99 +146,61 @@ walk_body (Each t r body rest) g i dp m is room nested few =
     let turns = walk_body body g (i + 1) (dp + 1) n refl (omega arith) inner few in
     let others = walk_body rest g n dp m (omega arith) room outer few in (
       state stage.Body g (i + 1) (dp + 1) 0 0,
-      scan_follows stage.Body g i dp t r few (omega arith) (omega arith),
+      (
+        refl,
+        within_is stage.Body g (i + 1) (dp + 1) 0 0 few (omega arith) (omega arith) (lit≤ tt)
+            (lit≤ tt),
+        refl,
+      ),
       walks_on (state stage.Body g (i + 1) (dp + 1) 0 0) (state stage.Body g n (dp + 1) 0 0)
           (state stage.Body g m dp 0 0) (code_says body) (says.End ∷ code_says rest) turns
           (state stage.Body g n dp 0 0, end_follows g n dp few (omega arith) (omega arith), others),
     )
 
-report_follows : (st : Stage) (g i n : ℕ) → g ≤ 8 → i ≤ 4096
-    → Steps (state st g i 0 0 0) (says.Report n) (state stage.Shows g i 0 0 0)
-unfolding is_small
-report_follows st g i n a b =
-    (refl, within_is stage.Shows g i 0 0 0 a b (lit≤ tt) (lit≤ tt) (lit≤ tt), refl)
-
 -- the rest of a program after a step, and its report
 walk_report : (c : Code) (g i m n : ℕ) → i + code_size c ≡ m → m ≤ 4096 → scan_depth c ≤ 3 → g ≤ 8
     → Walks (state stage.Body g i 0 0 0) (code_says c ++ says.Report n ∷ [])
     (state stage.Shows g m 0 0 0)
-unfolding state_after
+unfolding state_after is_small
 walk_report c g i m n is room nested few =
     walks_on (state stage.Body g i 0 0 0) (state stage.Body g m 0 0 0) (state stage.Shows g m 0 0 0)
     (code_says c) (says.Report n ∷ [])
     (walk_body c g i 0 m is room (omega arith) few)
-    (state stage.Shows g m 0 0 0, report_follows stage.Body g m n few room, refl)
-
-walk_code : (c : Code) (g n : ℕ) → code_size c ≤ 4096 → scan_depth c ≤ 3 → g ≤ 8
-    → Walks (state stage.Groups g 0 0 0 0) (code_says c ++ says.Report n ∷ [])
-    (state stage.Shows g (code_size c) 0 0 0)
-unfolding state_after
-walk_code Stop g n room nested few =
-    (state stage.Shows g 0 0 0 0, report_follows stage.Groups g 0 n few room, refl)
-walk_code (Then op rest) g n room nested few = (
-  state stage.Body g 1 0 0 0,
-  act_follows stage.Groups g 0 0 op few (lit≤ tt) (lit≤ tt),
-  walk_report rest g 1 (code_size (Then op rest)) n (omega arith) room nested few,
-)
-walk_code (Each t r body rest) g n room nested few =
-    let inner : 1 + scan_depth body ≤ 3 =
-    left_within (1 + scan_depth body) (scan_depth rest) 3 nested in
-    let outer : scan_depth rest ≤ 3 =
-    right_within (1 + scan_depth body) (scan_depth rest) 3 nested in
-    let k : ℕ = 1 + code_size body in
-    let turns = walk_body body g 1 1 k (omega arith) (omega arith) inner few in
-    let others = walk_report rest g k (code_size (Each t r body rest)) n (omega arith) room outer
-    few in
-    let parted : (code_says body ++ says.End ∷ code_says rest) ++ says.Report n ∷ []
-    ≡ code_says body ++ (says.End ∷ (code_says rest ++ says.Report n ∷ [])) =
-    append_assoc (code_says body) (says.End ∷ code_says rest) (says.Report n ∷ []) in
-    let q : TextState = state stage.Shows g (code_size (Each t r body rest)) 0 0 0 in
-    let all : Walks (state stage.Body g 1 1 0 0)
-    (code_says body ++ (says.End ∷ (code_says rest ++ says.Report n ∷ []))) q =
-    walks_on (state stage.Body g 1 1 0 0) (state stage.Body g k 1 0 0) q (code_says body)
-    (says.End ∷ (code_says rest ++ says.Report n ∷ [])) turns
-    (state stage.Body g k 0 0 0, end_follows g k 0 few (omega arith) (lit≤ tt), others) in (
-      state stage.Body g 1 1 0 0,
-      scan_follows stage.Groups g 0 0 t r few (lit≤ tt) (lit≤ tt),
-      rw parted all,
+    (
+      state stage.Shows g m 0 0 0,
+      (refl, within_is stage.Shows g m 0 0 0 few room (lit≤ tt) (lit≤ tt) (lit≤ tt), refl),
+      refl,
     )
+
+-- the first step after the groups is one of the body
+after_groups : (c : Code) (g n : ℕ) (q : TextState)
+    → Walks (state stage.Body g 0 0 0 0) (code_says c ++ says.Report n ∷ []) q
+    → Walks (state stage.Groups g 0 0 0 0) (code_says c ++ says.Report n ∷ []) q
+unfolding state_after
+after_groups Stop g n q walks = walks
+after_groups (Then op rest) g n q walks = walks
+after_groups (Each t r body rest) g n q walks = walks
 
 -- ---- below the report
 
-show_follows : (g i sh : ℕ) (show : Show) → g ≤ 8 → i ≤ 4096 → sh + 1 ≤ 16
-    → Follows (state stage.Shows g i 0 sh 0) (says.Show show) (state stage.Shows g i 0 (sh + 1) 0)
-unfolding state_after is_small
-show_follows g i sh show a b c =
-    (refl, within_is stage.Shows g i 0 (sh + 1) 0 a b (lit≤ tt) c (lit≤ tt), refl)
-
 walk_shows : (xs : List Show) (g i sh m : ℕ) → g ≤ 8 → i ≤ 4096 → sh + length xs ≡ m → m ≤ 16
     → Walks (state stage.Shows g i 0 sh 0) (map says.Show xs) (state stage.Shows g i 0 m 0)
+unfolding state_after is_small
 walk_shows [] g i sh m few room is within = let same : sh ≡ m = omega arith in rw same refl
 walk_shows (x ∷ xs) g i sh m few room is within = (
   state stage.Shows g i 0 (sh + 1) 0,
-  show_follows g i sh x few room (omega arith),
+  (refl, within_is stage.Shows g i 0 (sh + 1) 0 few room (lit≤ tt) (omega arith) (lit≤ tt), refl),
   walk_shows xs g i (sh + 1) m few room (omega arith) within,
 )
-
-first_sort_follows : (g i sh : ℕ) (key : SortKey) → g ≤ 8 → i ≤ 4096 → sh ≤ 16
-    → Follows (state stage.Shows g i 0 sh 0) (says.Sort key) (state stage.Sorts g i 0 sh 1)
-unfolding state_after is_small
-first_sort_follows g i sh key a b c =
-    (refl, within_is stage.Sorts g i 0 sh 1 a b (lit≤ tt) c (lit≤ tt), refl)
-
-sort_follows : (g i sh so : ℕ) (key : SortKey) → g ≤ 8 → i ≤ 4096 → sh ≤ 16 → so + 1 ≤ 16
-    → Follows (state stage.Sorts g i 0 sh so) (says.Sort key) (state stage.Sorts g i 0 sh (so + 1))
-unfolding state_after is_small
-sort_follows g i sh so key a b c d =
-    (refl, within_is stage.Sorts g i 0 sh (so + 1) a b (lit≤ tt) c d, refl)
 
 walk_sorts : (ks : List SortKey) (g i sh so m : ℕ) → g ≤ 8 → i ≤ 4096 → sh ≤ 16 → so + length ks ≡ m
     → m ≤ 16 → Walks (state stage.Sorts g i 0 sh so) (map says.Sort ks)
     (state stage.Sorts g i 0 sh m)
+unfolding state_after is_small
 walk_sorts [] g i sh so m few room shows is within = let same : so ≡ m = omega arith in rw same refl
 walk_sorts (k ∷ ks) g i sh so m few room shows is within = (
   state stage.Sorts g i 0 sh (so + 1),
-  sort_follows g i sh so k few room shows (omega arith),
+  (refl, within_is stage.Sorts g i 0 sh (so + 1) few room (lit≤ tt) shows (omega arith), refl),
   walk_sorts ks g i sh (so + 1) m few room shows (omega arith) within,
 )
 
@@ -256,13 +210,14 @@ Ends p ss = (q : TextState) × Walks p ss q × ((n : ℕ) → end_in q.stage q.d
 
 sorts_end : (ks : List SortKey) (g i sh : ℕ) → g ≤ 8 → i ≤ 4096 → sh ≤ 16 → length ks ≤ 16
     → Ends (state stage.Shows g i 0 sh 0) (map says.Sort ks)
+unfolding state_after is_small
 sorts_end [] g i sh few room shows within = (state stage.Shows g i 0 sh 0, refl, λ n. refl)
 sorts_end (k ∷ ks) g i sh few room shows within =
     let q : TextState = state stage.Sorts g i 0 sh (length (k ∷ ks)) in (
       q,
       (
         state stage.Sorts g i 0 sh 1,
-        first_sort_follows g i sh k few room shows,
+        (refl, within_is stage.Sorts g i 0 sh 1 few room (lit≤ tt) shows (lit≤ tt), refl),
         walk_sorts ks g i sh 1 (length (k ∷ ks)) few room shows (omega arith) within,
       ),
       λ n. refl,
@@ -271,14 +226,18 @@ sorts_end (k ∷ ks) g i sh few room shows within =
 ends_on : (p q : TextState) (ss ts : List Statement) → Walks p ss q → Ends q ts → Ends p (ss ++ ts)
 ends_on p q ss ts w e = (e.0, walks_on p q e.0 ss ts w e.1, e.2)
 
-registers_follow : (n : ℕ) → n ≤ 4096
-    → Follows (state stage.Registers 0 0 0 0 0) (says.Registers n) (state stage.Groups 0 0 0 0 0)
-unfolding state_after is_small is_within
-registers_follow n room = (refl, refl, le-leb n 4096 room)
-
-header_follows : Follows start says.Header (state stage.Registers 0 0 0 0 0)
+head_first : (n : ℕ) (ss : List Statement) → n ≤ 4096 → Ends (state stage.Groups 0 0 0 0 0) ss
+    → Ends start (says.Header ∷ says.Registers n ∷ ss)
 unfolding start state_after is_small is_within
-header_follows = (refl, refl, refl)
+head_first n ss room e = (
+  e.0,
+  (
+    state stage.Registers 0 0 0 0 0,
+    (refl, refl, refl),
+    (state stage.Groups 0 0 0 0 0, (refl, refl, le-leb n 4096 room), e.1),
+  ),
+  e.2,
+)
 
 body_first : (gs code tail : List Statement) (r : Statement)
     → gs ++ (code ++ r ∷ tail) ≡ gs ++ ((code ++ r ∷ []) ++ tail)
@@ -290,7 +249,8 @@ program_ends p h =
     let i : ℕ = code_size p.body in
     let sh : ℕ = length p.shows in
     let groups = walk_groups p.groups 0 g (omega arith) h.groups h.each_group in
-    let body = walk_code p.body g p.report h.instructions h.scans h.groups in
+    let body = after_groups p.body g p.report (state stage.Shows g i 0 0 0)
+    (walk_report p.body g 0 i p.report (omega arith) h.instructions h.scans h.groups) in
     let shows = walk_shows p.shows g i 0 sh h.groups h.instructions (omega arith) h.shows in
     let sorts = sorts_end p.sorts g i sh h.groups h.instructions h.shows h.sorts in
     let tail : Ends (state stage.Shows g i 0 0 0) (tail_of p) =
@@ -304,17 +264,6 @@ program_ends p h =
     (groups_say 0 p.groups ++ ((code_says p.body ++ says.Report p.report ∷ []) ++ tail_of p)) =
     ends_on (state stage.Groups 0 0 0 0 0) (state stage.Groups g 0 0 0 0) (groups_say 0 p.groups)
     ((code_says p.body ++ says.Report p.report ∷ []) ++ tail_of p) groups below in
-    let all : Ends start (says.Header ∷ says.Registers p.registers
-    ∷ (groups_say 0 p.groups
-    ++ ((code_says p.body ++ says.Report p.report ∷ []) ++ tail_of p))) = (
-      after_head.0,
-      (
-        state stage.Registers 0 0 0 0 0,
-        header_follows,
-        (state stage.Groups 0 0 0 0 0, registers_follow p.registers h.registers, after_head.1),
-      ),
-      after_head.2,
-    ) in
     let is : program_statements p
     ≡ says.Header ∷ says.Registers p.registers
     ∷ (groups_say 0 p.groups
@@ -322,7 +271,9 @@ program_ends p h =
     program_said p ∙ ap (λ ss. says.Header ∷ says.Registers p.registers ∷ ss)
     (body_first (groups_say 0 p.groups) (code_says p.body) (tail_of p)
     (says.Report p.report)) in
-    subst (Ends start) (sym is) all
+    subst (Ends start) (sym is) (head_first p.registers
+    (groups_say 0 p.groups ++ ((code_says p.body ++ says.Report p.report ∷ []) ++ tail_of p))
+    h.registers after_head)
 
 pub no_fault : (text : List ℕ) (p : Parts) → Spells text p → IsWithinLimits p
     → program_text_fault text ≡ None

@@ -1,5 +1,5 @@
 -- The text of a program that can be spelled spells it.
-use Rattle.std.{specs.Prelude.{codes, decimal, filter, nat_le, not}, proofs.Common.{◌≡◌, ◌==◌, ◌≤◌, ◌*◌, ◌∙◌, ◌∷◌, ◌++◌, [], ℕ, zero, suc, true, false, List, Option, Some, None, All, append_assoc, append-nil, map, arith, ap, refl, sym, replicate, slice_index_or}, specs.Fmt.signed_decimal, specs.List.{flat_map, list_all}, proofs.lemmas.Bool.{and_parts, leb-true, ne_eqb}, proofs.lemmas.List.Concat.flat_map-append, proofs.lemmas.List.Elements.{All-head, All-tail}, proofs.lemmas.List.Folds.list_all-append}
+use Rattle.std.{specs.Prelude.{codes, decimal, filter, nat_le, not}, proofs.Common.{◌≡◌, ◌==◌, ◌≤◌, ◌*◌, ◌∙◌, ◌∷◌, ◌++◌, [], ℕ, zero, suc, true, false, List, Option, Some, None, All, append_assoc, append-nil, map, arith, ap, refl, sym, replicate, slice_index_or}, specs.Fmt.signed_decimal, specs.List.{flat_map, list_all}, proofs.lemmas.Bool.{and_parts, leb-true, ne_eqb}, proofs.lemmas.List.Concat.flat_map-append, proofs.lemmas.List.Elements.{All-head, All-tail}, proofs.lemmas.List.{Folds.{list_all-append, list_all-map}, Sums.list_all-from_AllPass}}
 use Rattle.star_schema.specs.{Records.with_first, Schema.column_name, Schema.column_of as schema_column, Schema.table_name, Words.aggregate_name, Words.direction_name, Words.shape_name}
 use Rattle.star_common.specs.{Printable.is_printable, Quotes.doubled, Quotes.quoted}
 use Rattle.star_schema.specs.declared.{column.ColumnId.ColumnId, group.Direction.Direction, group.GroupColumn.GroupColumn, table.TableId.TableId}
@@ -65,12 +65,10 @@ spoken_target : (t : ℕ) (m : Mnemonic) (operands : List (List ℕ)) (o : Opera
     → operation_of m operands ≡ Some o → IsSpoken (says.Act (op.Assign t o))
 unfolding op_text
 spoken_target t m operands o text h is follow all means =
-    let parted : behind (codes "=" ∷ mnemonic_name m ∷ []) ++ behind operands
-    ≡ behind (codes "=" ∷ mnemonic_name m ∷ operands) =
-    sym (flat_map-append (λ w. 32 ∷ w) (codes "=" ∷ mnemonic_name m ∷ []) operands) in
     spoken (says.Act (op.Assign t o)) (register_word t) (codes "=" ∷ mnemonic_name m ∷ operands)
     (is ∙ ap (λ y. target_text t m ++ y) follow ∙ target_words t m (behind operands)
-    ∙ ap (λ y. register_word t ++ y) parted)
+    ∙ ap (λ y. register_word t ++ y)
+    (sym (flat_map-append (λ w. 32 ∷ w) (codes "=" ∷ mnemonic_name m ∷ []) operands)))
     (register_is_word t h) (rw (mnemonic_word m, all) refl) (by_target t m operands o h means)
 
 spoken_edge : (t : ℕ) (e : Edge) (c : ColumnId) (text : List ℕ) → HasFourDigits t → IsPrinted text
@@ -89,13 +87,11 @@ spoken_edge t e c text h printed =
     ∙ ap (λ y. y ++ 32 ∷ quoted text)
     (sym (flat_map-append (λ w. 32 ∷ w) (codes "=" ∷ mnemonic_name m ∷ [])
     (column_name c ∷ []))) in
-    let text_is : op_text (op.Assign t (operation.Edge e c text))
-    ≡ register_word t ++ (behind ws ++ 32 ∷ quoted text) =
-    ap (λ y. target_text t m ++ y) end
-    ∙ target_words t m (behind (column_name c ∷ []) ++ 32 ∷ quoted text)
-    ∙ ap (λ y. register_word t ++ y) parted in
     spoken_quote (says.Act (op.Assign t (operation.Edge e c text))) (register_word t) ws
-    (flat_map doubled text ++ 39 ∷ []) text_is
+    (flat_map doubled text ++ 39 ∷ [])
+    (ap (λ y. target_text t m ++ y) end
+    ∙ target_words t m (behind (column_name c ∷ []) ++ 32 ∷ quoted text)
+    ∙ ap (λ y. register_word t ++ y) parted)
     (register_is_word t h) (rw (mnemonic_word m, column_word c) refl)
     (quoted_printable text printed)
     (by_target t m (column_name c ∷ quoted text ∷ []) (operation.Edge e c text) h
@@ -136,12 +132,8 @@ lists_read f g v w xs ys front back = grind (arith, until_colon_read, each_read)
 
 words_all : {A : Type 0} (word : A → List ℕ) (xs : List A) → All (λ x. is_word (word x) ≡ true) xs
     → list_all is_word (map word xs) ≡ true
-words_all word [] h = refl
-words_all word (x ∷ xs) h =
-    let here : is_word (word x) ≡ true = All-head (λ y. is_word (word y) ≡ true) x xs h in
-    let later : list_all is_word (map word xs) ≡ true =
-    words_all word xs (All-tail (λ y. is_word (word y) ≡ true) x xs h) in
-    rw (here, later) refl
+words_all word xs h =
+    list_all-map is_word word xs ∙ list_all-from_AllPass (λ x. is_word (word x)) xs h
 
 lists_are_words : {A B : Type 0} (v : A → List ℕ) (w : B → List ℕ) (xs : List A) (ys : List B)
     → All (λ x. is_word (v x) ≡ true) xs → All (λ y. is_word (w y) ≡ true) ys
@@ -174,13 +166,6 @@ spoken_put g keys values h front back =
     (ap (λ y. codes "put " ++ (decimal g ++ y))
     (lists_text register_word register_word keys values)) refl
     (rw (count_word g h, all) refl) (rw (count_decimal g h, read) refl)
-
-spoken_keep : (f : ℕ) → HasFourDigits f → IsSpoken (says.Act (op.Keep f))
-unfolding op_text register_text by_words by_keyword keyword_of keyword_name
-spoken_keep f h =
-    spoken (says.Act (op.Keep f)) (codes "keep") (register_word f ∷ [])
-    (ap (λ y. codes "keep" ++ y) (one_behind (register_word f))) refl
-    (rw (register_is_word f h) refl) (rw (register_read f h) refl)
 
 -- ---- any instruction
 
@@ -223,8 +208,12 @@ spoken_assigned t (operation.Read g a n) s h =
     (rw (count_decimal g h.0, count_decimal a h.1, constant_decimal n h.2) refl)
 
 spoken_op : (o : Op) → IsSpellableOp o → IsSpoken (says.Act o)
+unfolding op_text register_text by_words by_keyword keyword_of keyword_name
 spoken_op (op.Assign t o) h = spoken_assigned t o h.0 h.1
-spoken_op (op.Keep f) h = spoken_keep f h
+spoken_op (op.Keep f) h =
+    spoken (says.Act (op.Keep f)) (codes "keep") (register_word f ∷ [])
+    (ap (λ y. codes "keep" ++ y) (one_behind (register_word f))) refl
+    (rw (register_is_word f h) refl) (rw (register_read f h) refl)
 spoken_op (op.Put g keys values) h = spoken_put g keys values h.0 h.1 h.2
 
 -- ---- groups
@@ -273,48 +262,14 @@ spoken_group index group h =
     lists_are_words key_word aggregate_name group.keys group.aggregates
     (λ k d small. key_is_word (slice_index_or group.keys k d))
     (λ k d small. aggregate_word (slice_index_or group.aggregates k d)) in
-    let text_is : group_text index group
-    ≡ codes "group" ++ behind (decimal index ∷ shape_name group.shape ∷ ws) =
-    ap (λ y. codes "group " ++ (decimal index ++ 32 ∷ (shape_name group.shape ++ y)))
-    (ap (λ y. y ++ (32 ∷ 58 ∷ flat_map aggregate_text group.aggregates)) (keys_text group.keys)
-    ∙ lists_text key_word aggregate_name group.keys group.aggregates) in
     spoken (says.Group index group) (codes "group") (decimal index ∷ shape_name group.shape ∷ ws)
-    text_is refl
+    (ap (λ y. codes "group " ++ (decimal index ++ 32 ∷ (shape_name group.shape ++ y)))
+    (ap (λ y. y ++ (32 ∷ 58 ∷ flat_map aggregate_text group.aggregates)) (keys_text group.keys)
+    ∙ lists_text key_word aggregate_name group.keys group.aggregates)) refl
     (rw (count_word index h.0, shape_word group.shape, all) refl)
     (rw (count_decimal index h.0, shape_read group.shape, read) refl)
 
 -- ---- the other statements
-
-spoken_header : IsSpoken says.Header
-unfolding by_words by_keyword keyword_of keyword_name
-spoken_header = spoken says.Header (codes "star") (codes "program" ∷ codes "1" ∷ []) refl refl refl
-    refl
-
-spoken_end : IsSpoken says.End
-unfolding by_words by_keyword keyword_of keyword_name
-spoken_end = spoken says.End (codes "end") [] refl refl refl refl
-
-spoken_registers : (n : ℕ) → HasFourDigits n → IsSpoken (says.Registers n)
-unfolding by_words by_keyword keyword_of keyword_name
-spoken_registers n h =
-    spoken (says.Registers n) (codes "registers") (decimal n ∷ [])
-    (ap (λ y. codes "registers" ++ y) (one_behind (decimal n))) refl (rw (count_word n h) refl)
-    (rw (count_decimal n h) refl)
-
-spoken_report : (n : ℕ) → HasFourDigits n → IsSpoken (says.Report n)
-unfolding by_words by_keyword keyword_of keyword_name
-spoken_report n h =
-    spoken (says.Report n) (codes "report") (decimal n ∷ [])
-    (ap (λ y. codes "report" ++ y) (one_behind (decimal n))) refl (rw (count_word n h) refl)
-    (rw (count_decimal n h) refl)
-
-spoken_scan : (table : TableId) (t : ℕ) → HasFourDigits t → IsSpoken (says.Scan table t)
-unfolding by_words by_keyword keyword_of keyword_name register_text
-spoken_scan table t h =
-    spoken (says.Scan table t) (codes "scan") (table_name table ∷ register_word t ∷ [])
-    (ap (λ y. codes "scan" ++ y) (two_behind (table_name table) (register_word t))) refl
-    (rw (table_word table, register_is_word t h) refl)
-    (rw (table_read table, register_read t h) refl)
 
 spoken_show : (name : List ℕ) (c : GroupColumn) → is_show_name name ≡ true → IsShortColumn c
     → IsSpoken (says.Show (record { name = name; column = c }))
@@ -347,13 +302,25 @@ spoken_sort (column.Aggregate a) d h =
     (rw (count_word a h, direction_word d) refl) (rw (count_decimal a h, direction_read d) refl)
 
 spoken_statement : (s : Statement) → IsSayable s → IsSpoken s
-spoken_statement says.Header h = spoken_header
-spoken_statement (says.Registers n) h = spoken_registers n h
+unfolding by_words by_keyword keyword_of keyword_name register_text
+spoken_statement says.Header h =
+    spoken says.Header (codes "star") (codes "program" ∷ codes "1" ∷ []) refl refl refl refl
+spoken_statement (says.Registers n) h =
+    spoken (says.Registers n) (codes "registers") (decimal n ∷ [])
+    (ap (λ y. codes "registers" ++ y) (one_behind (decimal n))) refl (rw (count_word n h) refl)
+    (rw (count_decimal n h) refl)
 spoken_statement (says.Group index group) h = spoken_group index group h
 spoken_statement (says.Act o) h = spoken_op o h
-spoken_statement (says.Scan table t) h = spoken_scan table t h
-spoken_statement says.End h = spoken_end
-spoken_statement (says.Report g) h = spoken_report g h
+spoken_statement (says.Scan table t) h =
+    spoken (says.Scan table t) (codes "scan") (table_name table ∷ register_word t ∷ [])
+    (ap (λ y. codes "scan" ++ y) (two_behind (table_name table) (register_word t))) refl
+    (rw (table_word table, register_is_word t h) refl)
+    (rw (table_read table, register_read t h) refl)
+spoken_statement says.End h = spoken says.End (codes "end") [] refl refl refl refl
+spoken_statement (says.Report g) h =
+    spoken (says.Report g) (codes "report") (decimal g ∷ [])
+    (ap (λ y. codes "report" ++ y) (one_behind (decimal g))) refl (rw (count_word g h) refl)
+    (rw (count_decimal g h) refl)
 spoken_statement (says.Show show) h = spoken_show show.name show.column h.0 h.1
 spoken_statement (says.Sort key) h = spoken_sort key.column key.direction h
 

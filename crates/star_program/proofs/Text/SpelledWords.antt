@@ -7,7 +7,6 @@ use Rattle.star_common.specs.{Printable.is_printable, Numerals.numeral_of, Quote
 use Rattle.star_program.{specs.Text.Keywords.{aggregate_of_word, column_of_word, direction_of, keyword_name, keyword_of, mnemonic_name, mnemonic_of, same, shape_of_word, table_of_word}, specs.Text.Numerals.{constant_of, count_of, is_show_name, is_name_byte, register_of}, specs.Text.Lines.{pieces_of, words_of}, specs.Text.Said.{quoted_text_of, unquoted}, specs.Text.Spellable.{IsPrinted, HasFourDigits}, specs.declared.spelling.keyword.Mnemonic.Mnemonic, proofs.Text.WordLemmas.{filtered_first, no_pieces, piece_ends, piece_on, piece_quoted, words_are, filled_whole}, proofs.Text.Quotes.{plain_byte, two_quotes}}
 use Rattle.star_schema.specs.declared.group.Aggregate.TheVariants as aggregate
 use Rattle.star_schema.specs.declared.group.Direction.TheVariants as direction
-use Rattle.star_schema.specs.declared.group.Shape.TheVariants as shape
 use Rattle.star_program.specs.declared.op.Edge.TheVariants as edge
 use Rattle.star_program.specs.declared.op.Operator.TheVariants as operator
 use Rattle.star_program.specs.declared.spelling.keyword.Mnemonic.TheVariants as mnemonic
@@ -80,10 +79,8 @@ pub words_before_quote : (w : List ℕ) (ws : List (List ℕ)) (q : List ℕ) �
 words_before_quote w [] q h all = word_cut w (39 ∷ q) h ∙ ap (λ vs. w ∷ vs) (quoted_words q)
 words_before_quote w (v ∷ ws) q h all =
     let parts = and_parts (is_word v) (list_all is_word ws) all in
-    let regrouped : w ++ (behind (v ∷ ws) ++ 32 ∷ 39 ∷ q)
-    ≡ w ++ 32 ∷ (v ++ (behind ws ++ 32 ∷ 39 ∷ q)) =
-    ap (λ t. w ++ 32 ∷ t) (append_assoc v (behind ws) (32 ∷ 39 ∷ q)) in
-    ap words_of regrouped ∙ word_cut w (v ++ (behind ws ++ 32 ∷ 39 ∷ q)) h
+    ap (λ t. words_of (w ++ 32 ∷ t)) (append_assoc v (behind ws) (32 ∷ 39 ∷ q))
+    ∙ word_cut w (v ++ (behind ws ++ 32 ∷ 39 ∷ q)) h
     ∙ ap (λ vs. w ∷ vs) (words_before_quote v ws q parts.0 parts.1)
 
 behind_printable : (ws : List (List ℕ)) → list_all is_word ws ≡ true
@@ -239,15 +236,11 @@ mnemonic_word it = grind arith
 
 pub shape_read : (s : Shape) → shape_of_word (shape_name s) ≡ Some s
 unfolding shape_of_word shape_name
-shape_read shape.Plain = refl
-shape_read shape.Cube = refl
-shape_read shape.Rollup = refl
+shape_read it = grind arith
 
 pub shape_word : (s : Shape) → is_word (shape_name s) ≡ true
 unfolding shape_name
-shape_word shape.Plain = refl
-shape_word shape.Cube = refl
-shape_word shape.Rollup = refl
+shape_word it = grind arith
 
 pub aggregate_read : (a : Aggregate) → aggregate_of_word (aggregate_name a) ≡ Some a
 unfolding aggregate_of_word aggregate_name

@@ -22,13 +22,9 @@ returns-in_err-next-clause-byte c =
 
 pub returns-then-next-eq39-clause-byte : goal.returns-then-next-eq39-clause-byte
 returns-then-next-eq39-clause-byte c =
-    let is : c.args.quoted.now ≡ c.in_ok-byte.byte.now ∷ c.in_ok-byte.rest.now =
-    c.in_ok-byte.ensures.cases.0 in
-    let then_is : c.in_ok-byte.rest.now ≡ c.in_ok-next.next.now ∷ c.in_ok-next.after.now =
-    c.in_ok-next.ensures.cases.0 in
     doubled_quote c.args.quoted.now c.in_ok-byte.byte.now c.in_ok-byte.rest.now
-    c.in_ok-next.next.now c.in_ok-next.after.now is then_is c.if-byte-ne39.false
-    c.if-next-eq39.true
+    c.in_ok-next.next.now c.in_ok-next.after.now c.in_ok-byte.ensures.cases.0
+    c.in_ok-next.ensures.cases.0 c.if-byte-ne39.false c.if-next-eq39.true
 
 pub returns-else-next-eq39-clause-byte : goal.returns-else-next-eq39-clause-byte
 returns-else-next-eq39-clause-byte c =
