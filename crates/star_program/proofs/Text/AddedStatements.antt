@@ -106,8 +106,7 @@ begun_body d x = grind (arith, followed_says, behind)
 
 pub begun_scan : (d : Draft) (t : TableId) (r : ℕ)
     → begun (record d {
-      scans =
-          d.scans ++ record { before = d.body; table = t; target = r } ∷ [];
+      scans = d.scans ++ record { before = d.body; table = t; target = r } ∷ [];
       body = Stop;
     })
     ≡ begun d ++ says.Scan t r ∷ []

@@ -264,13 +264,9 @@ program_ends p h =
     (groups_say 0 p.groups ++ ((code_says p.body ++ says.Report p.report ∷ []) ++ tail_of p)) =
     ends_on (state stage.Groups 0 0 0 0 0) (state stage.Groups g 0 0 0 0) (groups_say 0 p.groups)
     ((code_says p.body ++ says.Report p.report ∷ []) ++ tail_of p) groups below in
-    let is : program_statements p
-    ≡ says.Header ∷ says.Registers p.registers
-    ∷ (groups_say 0 p.groups
-    ++ ((code_says p.body ++ says.Report p.report ∷ []) ++ tail_of p)) =
-    program_said p ∙ ap (λ ss. says.Header ∷ says.Registers p.registers ∷ ss)
-    (body_first (groups_say 0 p.groups) (code_says p.body) (tail_of p)
-    (says.Report p.report)) in
+    let is = program_said p
+    ∙ ap (λ (ss : List Statement). says.Header ∷ says.Registers p.registers ∷ ss)
+    (body_first (groups_say 0 p.groups) (code_says p.body) (tail_of p) (says.Report p.report)) in
     subst (Ends start) (sym is) (head_first p.registers
     (groups_say 0 p.groups ++ ((code_says p.body ++ says.Report p.report ∷ []) ++ tail_of p))
     h.registers after_head)

@@ -14,17 +14,11 @@ unfolding lines_of_code
 code_said depth Stop = refl
 code_said depth (Then op rest) = ap (λ ss. says.Act op ∷ ss) (code_said depth rest)
 code_said depth (Each t r body rest) =
-    let inner : said_by (lines_of_code (depth + 1) body) ≡ code_says body =
-    code_said (depth + 1) body in
-    let outer : said_by (lines_of_code depth rest) ≡ code_says rest = code_said depth rest in
-    let parted : said_by (lines_of_code (depth + 1) body ++ line depth says.End
-    ∷ lines_of_code depth rest)
-    ≡ said_by (lines_of_code (depth + 1) body) ++ (says.End ∷ said_by (lines_of_code depth rest)) =
-    map-append (λ (l : Line). l.says) (lines_of_code (depth + 1) body)
-    (line depth says.End ∷ lines_of_code depth rest) in
     ap (λ ss. says.Scan t r ∷ ss)
-    (parted ∙ ap (λ ss. ss ++ (says.End ∷ said_by (lines_of_code depth rest))) inner
-    ∙ ap (λ ss. code_says body ++ says.End ∷ ss) outer)
+    (map-append (λ (l : Line). l.says) (lines_of_code (depth + 1) body)
+    (line depth says.End ∷ lines_of_code depth rest)
+    ∙ ap (λ ss. ss ++ (says.End ∷ said_by (lines_of_code depth rest))) (code_said (depth + 1) body)
+    ∙ ap (λ ss. code_says body ++ says.End ∷ ss) (code_said depth rest))
 
 -- an instruction or a scan comes first
 begins_step : List Statement → Bool
@@ -151,17 +145,13 @@ program_said p =
     ∙ ap (λ ss. map says.Show p.shows ++ ss) (sorts_said p.sorts) in
     let report : List Line =
     line 0 (says.Report p.report) ∷ (map show_line p.shows ++ map sort_line p.sorts) in
-    let middle : said_by (lines_of_code 0 p.body ++ report)
-    ≡ code_says p.body ++ says.Report p.report ∷ tail_of p =
-    map-append (λ (l : Line). l.says) (lines_of_code 0 p.body) report
-    ∙ ap (λ ss. ss ++ said_by report) (code_said 0 p.body)
-    ∙ ap (λ ss. code_says p.body ++ says.Report p.report ∷ ss) last in
-    let front : said_by (group_lines 0 p.groups ++ (lines_of_code 0 p.body ++ report))
-    ≡ groups_say 0 p.groups ++ (code_says p.body ++ says.Report p.report ∷ tail_of p) =
-    map-append (λ (l : Line). l.says) (group_lines 0 p.groups) (lines_of_code 0 p.body ++ report)
+    ap (λ ss. says.Header ∷ says.Registers p.registers ∷ ss)
+    (map-append (λ (l : Line). l.says) (group_lines 0 p.groups) (lines_of_code 0 p.body ++ report)
     ∙ ap (λ ss. ss ++ said_by (lines_of_code 0 p.body ++ report)) (groups_said 0 p.groups)
-    ∙ ap (λ ss. groups_say 0 p.groups ++ ss) middle in
-    ap (λ ss. says.Header ∷ says.Registers p.registers ∷ ss) front
+    ∙ ap (λ ss. groups_say 0 p.groups ++ ss)
+    (map-append (λ (l : Line). l.says) (lines_of_code 0 p.body) report
+    ∙ ap (λ ss. ss ++ said_by report) (code_said 0 p.body)
+    ∙ ap (λ ss. code_says p.body ++ says.Report p.report ∷ ss) last))
 
 pub map_some_apart : (ss ts : List Statement) → map Some ss ≡ map Some ts → ss ≡ ts
 map_some_apart [] [] e = refl

@@ -109,11 +109,9 @@ until_colon_read : {A : Type 0} (f : List ℕ → Option A) (word : A → List �
 until_colon_read f word [] rest h = refl
 until_colon_read f word (x ∷ xs) rest h =
     let here = All-head (IsItem f word) x xs h in
-    let reads : f (word x) ≡ Some x = here.0 in
-    let other : same (word x) (codes ":") ≡ false = here.1 in
     let later : until_colon f (map word xs ++ codes ":" ∷ rest) ≡ Some (xs, rest) =
     until_colon_read f word xs rest (All-tail (IsItem f word) x xs h) in
-    rw (other, reads, later) refl
+    rw (here.1, here.0, later) refl
 
 each_read : {A : Type 0} (f : List ℕ → Option A) (word : A → List ℕ) (xs : List A)
     → All (λ x. f (word x) ≡ Some x) xs → each f (map word xs) ≡ Some xs
