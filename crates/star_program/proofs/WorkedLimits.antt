@@ -1,5 +1,5 @@
 -- The limits of programs; how keys compare; what cells and codes say; and worlds that are loaded.
-use Rattle.std.{proofs.Common.{◌≡◌, ◌↔◌, ◌<◌, ◌≤◌, ℕ, List, [], ◌∷◌, Option, Some, None, true, false, length, pos, negsuc, refl}, specs.Prelude.{All, codes}, specs.Borrow.Bor, specs.declared.cmp.Ordering.TheVariants.{Less, Equal, Greater}}
+use Rattle.std.{proofs.Common.{◌≡◌, ◌↔◌, ◌<◌, ◌≤◌, ℕ, List, [], ◌∷◌, Some, None, true, false, length, pos, negsuc, refl}, specs.Prelude.{All, codes}, specs.Borrow.Bor, specs.declared.cmp.Ordering.TheVariants.{Less, Equal, Greater}}
 use Rattle.star_common.proofs.Tables.{Gives, Gives2}
 use Rattle.star_schema.specs.{declared.column.ColumnId.ColumnId, declared.column.ColumnId.TheVariants.CRegion, declared.group.Aggregate.TheVariants.{Count, Max, Sum}, declared.table.TableId.TableId, declared.table.TableId.TheVariants.{Customer, Date}, Schema.{references, table_of}, Tables.{Number, Text}}
 use Rattle.star_interval.specs.Range.{Holds, is_i64, is_i128}

@@ -4,8 +4,7 @@ use Rattle.star_interval.specs.Range.{is_i64}
 use Rattle.star_schema.specs.Records.{is_filled, with_first}
 use Rattle.star_common.{specs.Printable.is_printable, specs.Numerals.numeral_of, proofs.NumeralLemmas.numeral_below}
 use Rattle.star_schema.specs.declared.group.GroupColumn.TheVariants as column
-use Rattle.star_program.specs.{Text.Keywords.{aggregate_of_word, column_of_word, direction_of, keyword_of, mnemonic_of, same, shape_of_word, table_of_word}, Text.Lines.{begins_with, is_blank_line, lines_of, pieces_of, words_of}, Text.Numerals.{constant_of, count_of, is_show_name, register_of, up_to}, Text.Said.{assigned, both, by_first, by_keyword, by_words, each, end_of, from_one_word, from_three_words, from_two_words, group_column_of, group_key_of, group_of, header_of, lists, name_of, operation_of, put_of, quoted_text_of, said, show_of, sort_of, text_key, unquoted, until_colon}, Text.Spellable.{IsKey, IsPrinted, IsSayable, HasFourDigits, IsShortColumn, IsSpellableOp, IsSpellableOperation, OnlySpellable}, Text.Spelling.{Spells, program_statements}, World.is_text, declared.program.Show.Show, declared.spelling.keyword.Keyword.Keyword, declared.spelling.keyword.Mnemonic.Mnemonic, declared.spelling.statement.Statement.Statement}
-use Rattle.star_program.specs.declared.group.GroupKey.TheVariants as key
+use Rattle.star_program.specs.{Text.Keywords.{aggregate_of_word, column_of_word, direction_of, keyword_of, mnemonic_of, same, shape_of_word, table_of_word}, Text.Lines.{begins_with, is_blank_line, lines_of, pieces_of, words_of}, Text.Numerals.{constant_of, count_of, is_show_name, register_of, up_to}, Text.Said.{assigned, both, by_first, by_keyword, by_words, each, end_of, from_one_word, from_three_words, from_two_words, group_column_of, group_key_of, group_of, header_of, lists, name_of, operation_of, put_of, quoted_text_of, said, show_of, sort_of, text_key, unquoted, until_colon}, Text.Spellable.{IsKey, IsPrinted, IsSayable, HasFourDigits, IsShortColumn, IsSpellableOp, IsSpellableOperation, OnlySpellable}, Text.Spelling.{Spells, program_statements}, World.is_text, declared.spelling.keyword.Keyword.Keyword, declared.spelling.keyword.Mnemonic.Mnemonic, declared.spelling.statement.Statement.Statement}
 use Rattle.star_program.specs.declared.op.Op.TheVariants as op
 use Rattle.star_program.specs.declared.op.Operation.TheVariants as operation
 use Rattle.star_program.specs.declared.spelling.keyword.Keyword.TheVariants as keyword

@@ -2,7 +2,7 @@
 use Rattle.std.{specs.Prelude.{codes, decimal, filter, nat_le, not}, proofs.Common.{◌≡◌, ◌==◌, ◌≤◌, ◌*◌, ◌∙◌, ◌∷◌, ◌++◌, [], ℕ, zero, suc, true, false, List, Option, Some, None, All, append_assoc, append-nil, map, arith, ap, refl, sym, replicate, slice_index_or}, specs.Fmt.signed_decimal, specs.List.{flat_map, list_all}, proofs.lemmas.Bool.{and_parts, leb-true, ne_eqb}, proofs.lemmas.List.Concat.flat_map-append, proofs.lemmas.List.Elements.{All-head, All-tail}, proofs.lemmas.List.{Folds.{list_all-append, list_all-map}, Sums.list_all-from_AllPass}}
 use Rattle.star_schema.specs.{Records.with_first, Schema.column_name, Schema.column_of as schema_column, Schema.table_name, Words.aggregate_name, Words.direction_name, Words.shape_name}
 use Rattle.star_common.specs.{Printable.is_printable, Quotes.doubled, Quotes.quoted}
-use Rattle.star_schema.specs.declared.{column.ColumnId.ColumnId, group.Direction.Direction, group.GroupColumn.GroupColumn, table.TableId.TableId}
+use Rattle.star_schema.specs.declared.{column.ColumnId.ColumnId, group.Direction.Direction, group.GroupColumn.GroupColumn}
 use Rattle.star_schema.specs.declared.group.GroupColumn.TheVariants as column
 use Rattle.star_program.{specs.Text.Keywords.{aggregate_of_word, column_of_word, keyword_name, keyword_of, mnemonic_name, same}, specs.Text.Lines.{is_blank_line, lines_of, words_of}, specs.Text.Numerals.{is_show_name, register_of}, specs.Text.Spelling.Spells, specs.Text.Statements.{Line, lines_of_program}, specs.Text.Said.{by_keyword, by_words, each, group_column_of, group_key_of, lists, operation_of, said, until_colon}, specs.Text.Spellable.{IsKey, IsPrinted, IsSayable, HasFourDigits, IsShortColumn, IsSpellableOp, IsSpellableOperation, Written}, specs.Text.Written.{aggregate_text, assigned_text, written_column, group_text, key_text, written_line, op_text, register_text, show_text, sort_text, statement_text, target_text, program_text}, specs.declared.group.GroupDecl.GroupDecl, specs.declared.group.GroupKey.GroupKey, specs.declared.op.Op.Op, specs.declared.op.Edge.Edge, specs.declared.op.Operation.Operation, specs.declared.spelling.keyword.Mnemonic.Mnemonic, specs.declared.spelling.statement.Statement.Statement, proofs.Text.LineLemmas.{goes_on, no_lines}, proofs.Text.WordLemmas.space_first, proofs.Text.WrittenLemmas.flat_map_map, proofs.Text.SpelledWords.{aggregate_read, aggregate_word, behind, column_apart, column_read, column_word, constant_decimal, constant_word, count_decimal, count_word, direction_read, direction_word, is_word, name_word, mnemonic_read, mnemonic_word, quote_printable, quoted_printable, quoted_read, register_is_word, register_no_keyword, register_read, register_word, shape_read, shape_word, table_read, table_word, words_before_quote, words_behind, words_printable}}
 use Rattle.star_program.specs.declared.group.GroupKey.TheVariants as key

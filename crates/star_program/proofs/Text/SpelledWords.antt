@@ -5,9 +5,6 @@ use Rattle.star_schema.specs.{Records.is_filled, Records.with_first, Schema.colu
 use Rattle.star_schema.{specs.declared.table.TableId.TableId, specs.declared.table.TableId.TheVariants.Date, specs.declared.group.Aggregate.Aggregate, specs.declared.group.Direction.Direction, specs.declared.group.Shape.Shape, proofs.NamesApart.{column_by_name, table_by_name}}
 use Rattle.star_common.specs.{Printable.is_printable, Numerals.numeral_of, Quotes.doubled, Quotes.quoted}
 use Rattle.star_program.{specs.Text.Keywords.{aggregate_of_word, column_of_word, direction_of, keyword_name, keyword_of, mnemonic_name, mnemonic_of, same, shape_of_word, table_of_word}, specs.Text.Numerals.{constant_of, count_of, is_show_name, is_name_byte, register_of}, specs.Text.Lines.{pieces_of, words_of}, specs.Text.Said.{quoted_text_of, unquoted}, specs.Text.Spellable.{IsPrinted, HasFourDigits}, specs.declared.spelling.keyword.Mnemonic.Mnemonic, proofs.Text.WordLemmas.{filtered_first, no_pieces, piece_ends, piece_on, piece_quoted, words_are, filled_whole}, proofs.Text.Quotes.{plain_byte, two_quotes}}
-use Rattle.star_program.specs.declared.op.Edge.TheVariants as edge
-use Rattle.star_program.specs.declared.op.Operator.TheVariants as operator
-use Rattle.star_program.specs.declared.spelling.keyword.Mnemonic.TheVariants as mnemonic
 
 -- ---- words
 
