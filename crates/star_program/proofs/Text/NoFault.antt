@@ -127,15 +127,8 @@ walk_body : (c : Code) (g i dp m : ℕ) → i + code_size c ≡ m → m ≤ 4096
     → g ≤ 8 → Walks (state stage.Body g i dp 0 0) (code_says c) (state stage.Body g m dp 0 0)
 unfolding state_after is_small
 walk_body Stop g i dp m is room nested few = let same : i ≡ m = omega arith in rw same refl
-walk_body (Then op rest) g i dp m is room nested few = (
-  state stage.Body g (i + 1) dp 0 0,
-  (
-    refl,
-    within_is stage.Body g (i + 1) dp 0 0 few (omega arith) (omega arith) (lit≤ tt) (lit≤ tt),
-    refl,
-  ),
-  walk_body rest g (i + 1) dp m (omega arith) room nested few,
-)
+walk_body (Then op rest) g i dp m is room nested few =
+    grind (arith, state, within_is, walk_body rest g (i + 1) dp m)
 walk_body (Each t r body rest) g i dp m is room nested few =
     let within : larger (1 + scan_depth body) (scan_depth rest) ≤ 3 - dp = omega arith in
     let inner : dp + 1 + scan_depth body ≤ 3 =
@@ -165,8 +158,7 @@ unfolding state_after is_small
 walk_report c g i m n is room nested few =
     walks_on (state stage.Body g i 0 0 0) (state stage.Body g m 0 0 0) (state stage.Shows g m 0 0 0)
     (code_says c) (says.Report n ∷ [])
-    (walk_body c g i 0 m is room (omega arith) few)
-    (
+    (walk_body c g i 0 m is room (omega arith) few) (
       state stage.Shows g m 0 0 0,
       (refl, within_is stage.Shows g m 0 0 0 few room (lit≤ tt) (lit≤ tt) (lit≤ tt), refl),
       refl,
@@ -187,22 +179,16 @@ walk_shows : (xs : List Show) (g i sh m : ℕ) → g ≤ 8 → i ≤ 4096 → sh
     → Walks (state stage.Shows g i 0 sh 0) (map says.Show xs) (state stage.Shows g i 0 m 0)
 unfolding state_after is_small
 walk_shows [] g i sh m few room is within = let same : sh ≡ m = omega arith in rw same refl
-walk_shows (x ∷ xs) g i sh m few room is within = (
-  state stage.Shows g i 0 (sh + 1) 0,
-  (refl, within_is stage.Shows g i 0 (sh + 1) 0 few room (lit≤ tt) (omega arith) (lit≤ tt), refl),
-  walk_shows xs g i (sh + 1) m few room (omega arith) within,
-)
+walk_shows (x ∷ xs) g i sh m few room is within =
+    grind (arith, state, within_is, walk_shows xs g i (sh + 1) m few room)
 
 walk_sorts : (ks : List SortKey) (g i sh so m : ℕ) → g ≤ 8 → i ≤ 4096 → sh ≤ 16 → so + length ks ≡ m
     → m ≤ 16 → Walks (state stage.Sorts g i 0 sh so) (map says.Sort ks)
     (state stage.Sorts g i 0 sh m)
 unfolding state_after is_small
 walk_sorts [] g i sh so m few room shows is within = let same : so ≡ m = omega arith in rw same refl
-walk_sorts (k ∷ ks) g i sh so m few room shows is within = (
-  state stage.Sorts g i 0 sh (so + 1),
-  (refl, within_is stage.Sorts g i 0 sh (so + 1) few room (lit≤ tt) shows (omega arith), refl),
-  walk_sorts ks g i sh (so + 1) m few room shows (omega arith) within,
-)
+walk_sorts (k ∷ ks) g i sh so m few room shows is within =
+    grind (arith, state, within_is, walk_sorts ks g i sh (so + 1) m few room shows)
 
 -- a text may end below the report
 abbrev pub Ends : TextState → List Statement → Type 0

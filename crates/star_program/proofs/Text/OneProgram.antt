@@ -1,5 +1,5 @@
 -- No text spells two programs: its statements tell the parts of the program.
-use Rattle.std.{specs.Prelude.Some, proofs.Common.{◌≡◌, ◌+◌, ◌∙◌, ◌∷◌, ◌++◌, [], ℕ, Bool, true, false, List, map, append_assoc, refl, sym, ap}, proofs.lemmas.Bool.both_ways, proofs.lemmas.List.map-append}
+use Rattle.std.{specs.Prelude.Some, proofs.Common.{◌≡◌, ◌+◌, ◌∙◌, ◌∷◌, ◌++◌, [], ℕ, Bool, true, false, List, map, append_assoc, refl, sym, ap, arith}, proofs.lemmas.Bool.both_ways, proofs.lemmas.List.map-append}
 use Rattle.star_schema.specs.declared.group.SortKey.{SortKey}
 use Rattle.star_program.specs.{Code.{Code, Stop, Then, Each}, Private.Drafts.{code_says, groups_say}, Text.Spelling.{OneProgram, Spells, program_statements}, Text.Statements.{Line, group_lines, line, lines_of_code, show_line, sort_line}, declared.group.GroupDecl.GroupDecl, declared.program.Parts.Parts, declared.program.Show.Show, declared.spelling.statement.Statement.Statement, declared.spelling.statement.Statement.TheVariants.{Act, Scan, Group}}
 use Rattle.star_program.specs.declared.spelling.statement.Statement.TheVariants as says
@@ -40,10 +40,7 @@ code_apart (Then op c) Stop ss ts none other e = let yes : begins_step ts ≡ tr
 code_apart (Each t r b c) Stop ss ts none other e = let yes : begins_step ts ≡ true =
     ap begins_step (sym e) in absurd (both_ways (begins_step ts) other yes)
 code_apart (Then op c) (Then oq d) ss ts none other e =
-    let same : op ≡ oq = cc in
-    let tail : code_says c ++ ss ≡ code_says d ++ ts = cc in
-    let rest = code_apart c d ss ts none other tail in
-    (rw (same, rest.0) refl, rest.1)
+    grind (arith, code_says, code_apart c d ss ts none other)
 code_apart (Then op c) (Each t r b d) ss ts none other e = let bad : ⊥ = cc in absurd bad
 code_apart (Each t r b c) (Then op d) ss ts none other e = let bad : ⊥ = cc in absurd bad
 code_apart (Each t r b c) (Each u v f d) ss ts none other e =
@@ -87,10 +84,7 @@ groups_apart n [] (h ∷ hs) ss ts none other e = let yes : begins_group ss ≡ 
 groups_apart n (g ∷ gs) [] ss ts none other e = let yes : begins_group ts ≡ true =
     ap begins_group (sym e) in absurd (both_ways (begins_group ts) other yes)
 groups_apart n (g ∷ gs) (h ∷ hs) ss ts none other e =
-    let same : g ≡ h = cc in
-    let tail : groups_say (n + 1) gs ++ ss ≡ groups_say (n + 1) hs ++ ts = cc in
-    let rest = groups_apart (n + 1) gs hs ss ts none other tail in
-    (rw (same, rest.0) refl, rest.1)
+    grind (arith, groups_say, groups_apart (n + 1) gs hs ss ts none other)
 
 code_no_group : (c : Code) (g : ℕ) (ss : List Statement)
     → begins_group (code_says c ++ says.Report g ∷ ss) ≡ false
@@ -157,10 +151,7 @@ pub map_some_apart : (ss ts : List Statement) → map Some ss ≡ map Some ts �
 map_some_apart [] [] e = refl
 map_some_apart [] (t ∷ ts) e = cc
 map_some_apart (s ∷ ss) [] e = cc
-map_some_apart (s ∷ ss) (t ∷ ts) e =
-    let same : s ≡ t = cc in
-    let tail : map Some ss ≡ map Some ts = cc in
-    rw (same, map_some_apart ss ts tail) refl
+map_some_apart (s ∷ ss) (t ∷ ts) e = grind (arith, map_some_apart ss ts)
 
 bodies_apart : (c d : Code) (g h : ℕ) (ss ts : List Statement)
     → code_says c ++ says.Report g ∷ ss ≡ code_says d ++ says.Report h ∷ ts

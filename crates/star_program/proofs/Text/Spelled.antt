@@ -329,12 +329,7 @@ line_cut : (content rest : List ℕ) → IsPrinted content
 unfolding lines_of
 line_cut [] rest h = refl
 line_cut (b ∷ content) rest h =
-    let parts = and_parts (is_printable b) (list_all is_printable content) h in
-    let low : 32 ≤ b = leb-true 32 b (and_parts (nat_le 32 b) (nat_le b 126) parts.0).0 in
-    let other : (b == 10) ≡ false = ne_eqb b 10 (λ e. absurd (omega arith)) in
-    let plain : (b == 13) ≡ false = ne_eqb b 13 (λ e. absurd (omega arith)) in
-    goes_on b (content ++ 10 ∷ rest) other (rw plain refl)
-    ∙ ap (with_first b) (line_cut content rest parts.1)
+    grind (arith, and_parts, list_all, leb-true, nat_le, ne_eqb, goes_on, line_cut content rest)
 
 abbrev content_of : Line → List ℕ
 content_of l = replicate (2 * l.depth) 32 ++ statement_text l.says

@@ -39,9 +39,7 @@ piece_cut : (w rest : List ℕ) → list_all is_word_byte w ≡ true
     → pieces_of (w ++ 32 ∷ rest) ≡ w ∷ pieces_of rest
 piece_cut [] rest h = piece_ends rest
 piece_cut (b ∷ w) rest h =
-    let parts = and_parts (is_word_byte b) (list_all is_word_byte w) h in
-    piece_on b (w ++ 32 ∷ rest) (word_byte_plain b parts.0)
-    ∙ ap (with_first b) (piece_cut w rest parts.1)
+    grind (arith, common_steps, and_parts, list_all, piece_on, word_byte_plain, piece_cut w rest)
 
 piece_whole : (w : List ℕ) → list_all is_word_byte w ≡ true → pieces_of w ≡ w ∷ []
 piece_whole [] h = no_pieces
@@ -287,12 +285,7 @@ doubled_printable : (text : List ℕ) → IsPrinted text
     → list_all is_printable (flat_map doubled text ++ 39 ∷ []) ≡ true
 doubled_printable [] h = refl
 doubled_printable (b ∷ text) h =
-    let parts = and_parts (is_printable b) (list_all is_printable text) h in
-    let rest = doubled_printable text parts.1 in
-    elim (cases_Bool (b == 39)) [
-      | inl quote ↦ rw quote rest
-      | inr plain ↦ rw (plain, parts.0) rest
-    ]
+    grind (arith, common_steps, and_parts, list_all, cases_Bool, doubled_printable text)
 
 pub quoted_printable : (text : List ℕ) → IsPrinted text → list_all is_printable (quoted text) ≡ true
 unfolding quoted
