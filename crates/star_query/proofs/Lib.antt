@@ -20,5 +20,6 @@ pub mod Cuts
 pub mod MeantTrees
 pub mod Reserved
 pub mod FirstFaults
+pub mod PhraseMarks
 pub mod Phrased
 pub mod Told

@@ -1,6 +1,6 @@
 -- The machine's verdict is the grammar's.
 use Rattle.std.{proofs.Common.{◌≡◌, ◌∙◌, ℕ, ◌+◌, ◌<◌, ◌≤◌, ◌⊎◌, inl, inr, Bool, true, false, ◌||◌, List, [], ◌∷◌, ◌++◌, Option, Some, None, cond, refl, sym, ap, subst, arith, append-nil}, specs.Prelude.nat_lt, specs.List.AllByRecursion, proofs.lemmas.Bool.{ltb-true, ltb-false}, proofs.lemmas.Grind.common_steps}
-use Rattle.star_query.{specs.declared.counts.Part.Part, specs.declared.counts.Counts.Counts, specs.declared.fault.Fault.Fault, specs.declared.fault.Fault.TheVariants.{Unexpected, TooDeep, TooMany}, specs.Symbols.{Symbol, symbols}, specs.Tree.Tree, specs.Private.Phrases.{Query, query_marks, query_tree}, specs.Maxima.limit, specs.Grammar.{Mark, IsQuery}, specs.Derives.{count_begun, IsShortName, AreWithinLimits, symbols_at, Derives, BeginsQuery, NoQueryGoesOn, QueryFails, unexpected, too_deep, too_many, FirstQueryFault, Means}, specs.Private.Machine.{ParserState, begin, Step, to, next_step, query_at_end, Verdict, Whole, Bad, count_of_part, plus, is_over, is_long, checked, verdict_after, ends, run, nothing_counted}, proofs.Cuts.one_cut, proofs.Accepting.{Accepts, query_goes}, proofs.Passed.{passed, step_moves}, proofs.Phrased.{is_query, query_is, phrased, begun}, proofs.Finishes.{state_finishes, end_passed}, proofs.Counting.{not_below, number-plus, not_over, over_some, fits_after, short_name, not_long}}
+use Rattle.star_query.{specs.declared.counts.Part.Part, specs.declared.counts.Counts.Counts, specs.declared.fault.Fault.Fault, specs.declared.fault.Fault.TheVariants.{Unexpected, TooDeep, TooMany}, specs.Symbols.{Symbol, symbols}, specs.Tree.Tree, specs.Private.Phrases.{Query, query_marks, query_tree}, specs.Maxima.limit, specs.Grammar.{Mark, IsQuery}, specs.Derives.{count_begun, IsShortName, AreWithinLimits, symbols_at, Derives, BeginsQuery, NoQueryGoesOn, QueryFails, unexpected, too_deep, too_many, FirstQueryFault, Means}, specs.Private.Machine.{ParserState, begin, Step, to, next_step, query_at_end, Verdict, Whole, Bad, count_of_part, plus, is_over, is_long, checked, verdict_after, ends, run, nothing_counted}, proofs.Cuts.one_cut, proofs.Accepting.{Accepts, query_goes}, proofs.Passed.{passed, step_moves}, proofs.Phrased.{is_query, query_is}, proofs.Finishes.{state_finishes, end_passed}, proofs.Counting.{not_below, number-plus, not_over, over_some, fits_after, short_name, not_long}}
 
 -- from one state to another through these marks
 abbrev pub Goes : ParserState → List Mark → ParserState → Type 0
@@ -173,13 +173,15 @@ none_counted it = grind arith
 
 pub only : (xs : List Symbol) (t : Tree) → Derives xs t
     → (q : Query) × (verdict_of xs ≡ Whole q) × (query_tree q ≡ t)
-only xs t derived = let d = phrased xs t derived in (
-  d.phrase,
-  ap verdict_of (sym d.written)
-      ∙ accepts_run (query_marks d.phrase) begin nothing_counted d.phrase (query_goes d.phrase)
-      d.within.depth d.within.names (λ p. omega (arith, none_counted p, d.within.counts p)),
-  d.read,
-)
+only xs t d =
+    let r = is_query d.query in
+    let within = subst AreWithinLimits (sym r.1) d.within in (
+      r.0,
+      ap verdict_of (sym (ap symbols_at r.1 ∙ d.written))
+          ∙ accepts_run (query_marks r.0) begin nothing_counted r.0 (query_goes r.0)
+          within.depth within.names (λ p. omega (arith, none_counted p, within.counts p)),
+      r.2,
+    )
 
 -- what was reached from the beginning is within the limits
 reached_within : (xs : List Symbol) (last : ParserState) (n : Counts) (ms : List Mark)
@@ -347,11 +349,11 @@ same_front (x ∷ a) (y ∷ b) ms ns from q r g h e =
 pub one_front : (a b : List Mark) → BeginsQuery a → BeginsQuery b → symbols_at a ≡ symbols_at b
     → a ≡ b
 one_front a b begins_a begins_b e =
-    let f = begun a begins_a in
-    let g = begun b begins_b in
-    same_front a b f.more g.more begin f.phrase g.phrase
-    (subst (λ ms. Accepts begin ms f.phrase) f.written (query_goes f.phrase))
-    (subst (λ ms. Accepts begin ms g.phrase) g.written (query_goes g.phrase)) e
+    let f = is_query begins_a.query in
+    let g = is_query begins_b.query in
+    same_front a b begins_a.more begins_b.more begin f.0 g.0
+    (subst (λ ms. Accepts begin ms f.0) f.1 (query_goes f.0))
+    (subst (λ ms. Accepts begin ms g.0) g.1 (query_goes g.0)) e
 
 -- no text means two trees
 pub one_meaning : (bytes : List ℕ) (a b : Tree) → Means bytes a → Means bytes b → a ≡ b
