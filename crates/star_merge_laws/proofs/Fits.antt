@@ -94,42 +94,32 @@ module _ (m n : ℕ) (a b : Range) where
   right_inside : 1 ≤ n → IsWithin b (hull_of_rows m n a b)
   right_inside h = grind (arith, within_itself, within_hull_right)
 
-module _ (database : Database) (xs ys : List Row) where
+module _ (database : Database) where
   abbrev bounds_over : List Row → ColumnId → Range
   bounds_over rows c = bounds_in (tables_with database rows) c
-
-  first_inside : 1 ≤ length xs → (c : ColumnId)
-      → IsWithin (bounds_over xs c) (bounds_over (xs ++ ys) c)
-  first_inside h c = subst (IsWithin (bounds_over xs c)) (in_table database xs ys c (table_of c))
-      (left_inside (length xs) (length ys) (bounds_over xs c) (bounds_over ys c) h)
-
-  second_inside : 1 ≤ length ys → (c : ColumnId)
-      → IsWithin (bounds_over ys c) (bounds_over (xs ++ ys) c)
-  second_inside h c = subst (IsWithin (bounds_over ys c)) (in_table database xs ys c (table_of c))
-      (right_inside (length xs) (length ys) (bounds_over xs c) (bounds_over ys c) h)
-
-  ordered_over : (rows : List Row) (c : ColumnId) → IsOrdered (bounds_over rows c)
-  ordered_over rows c = bounds_ordered (numbers_of c (tables_with database rows (table_of c)))
 
   abbrev FitsOver : ℕ → Plan → List Row → Type 0
   FitsOver most p rows = Fits (length rows) most (bounds_over rows) p
 
-  pub first_fits : (most : ℕ) (p : Plan) → 1 ≤ length xs → FitsOver most p (xs ++ ys)
-      → FitsOver most p xs
-  first_fits most p some h =
-      let count = length-append xs ys in
-      record {
-        visits = omega (arith, count, h.visits);
-        nodes = measures_smaller (bounds_over xs) (bounds_over (xs ++ ys)) (ordered_over xs)
-            (first_inside some) p.measures h.nodes;
-      }
+  fits_part : (rows whole : List Row) (most : ℕ) (p : Plan) → length rows ≤ length whole
+      → ((c : ColumnId) → IsWithin (bounds_over rows c) (bounds_over whole c))
+      → FitsOver most p whole → FitsOver most p rows
+  fits_part rows whole most p few inside h = record {
+    visits = omega (arith, few, h.visits);
+    nodes = measures_smaller (bounds_over rows) (bounds_over whole)
+        (λ c. bounds_ordered (numbers_of c (tables_with database rows (table_of c)))) inside
+        p.measures h.nodes;
+  }
 
-  pub second_fits : (most : ℕ) (p : Plan) → 1 ≤ length ys → FitsOver most p (xs ++ ys)
-      → FitsOver most p ys
-  second_fits most p some h =
-      let count = length-append xs ys in
-      record {
-        visits = omega (arith, count, h.visits);
-        nodes = measures_smaller (bounds_over ys) (bounds_over (xs ++ ys)) (ordered_over ys)
-            (second_inside some) p.measures h.nodes;
-      }
+  module _ (xs ys : List Row) (most : ℕ) (p : Plan) where
+    pub first_fits : 1 ≤ length xs → FitsOver most p (xs ++ ys) → FitsOver most p xs
+    first_fits some =
+        fits_part xs (xs ++ ys) most p (omega (arith, length-append xs ys))
+        (λ c. subst (IsWithin (bounds_over xs c)) (in_table database xs ys c (table_of c))
+        (left_inside (length xs) (length ys) (bounds_over xs c) (bounds_over ys c) some))
+
+    pub second_fits : 1 ≤ length ys → FitsOver most p (xs ++ ys) → FitsOver most p ys
+    second_fits some =
+        fits_part ys (xs ++ ys) most p (omega (arith, length-append xs ys))
+        (λ c. subst (IsWithin (bounds_over ys c)) (in_table database xs ys c (table_of c))
+        (right_inside (length xs) (length ys) (bounds_over xs c) (bounds_over ys c) some))

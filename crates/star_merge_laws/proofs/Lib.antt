@@ -8,8 +8,4 @@ pub mod Many
 pub mod Rows
 pub mod Fits
 pub mod PartialFacts
-pub mod MergedAnswers
-pub mod Texts
 pub mod Regrouping
-pub mod Spans
-pub mod MergedOutputs

@@ -34,12 +34,6 @@ module _ {X : Type 0} (R : X → X → Type 0) where
   pairs_tail x xs h =
       λ i j d before within. h (suc i) (suc j) d (omega (arith, before)) (omega (arith, within))
 
-  pub pairs_first : (xs ys : List X) → AllPairs R (xs ++ ys) → AllPairs R xs
-  pairs_first [] ys h = λ i j d before within. absurd (omega (arith, within))
-  pairs_first (x ∷ xs) ys h =
-      AllPairs-cons R x xs (all_first (R x) xs ys (pairs_head x (xs ++ ys) h))
-      (pairs_first xs ys (pairs_tail x (xs ++ ys) h))
-
   pub pairs_second : (xs ys : List X) → AllPairs R (xs ++ ys) → AllPairs R ys
   pairs_second [] ys h = h
   pairs_second (x ∷ xs) ys h = pairs_second xs ys (pairs_tail x (xs ++ ys) h)
@@ -170,52 +164,6 @@ module _ (database : Database) where
     pub sound_joined : IsSound (with_lineorder database (xs ++ ys))
     sound_joined = record { distinct = joined_distinct; found = joined_found }
 
-  module _ (xs ys : List (List Value)) (whole : IsSound (with_lineorder database (xs ++ ys)))
-    where
-      keys_are : AllPairs (λ k l. k ≢ l) (keys_of Lineorder xs ++ keys_of Lineorder ys)
-      keys_are = subst (AllPairs (λ k l. k ≢ l)) (keys_joined Lineorder xs ys)
-          (whole.distinct Lineorder)
-
-      found_are : (c : ColumnId) (t : TableId) → references c ≡ Some t
-          → All (λ n. Contains (keys_of t (rows_in database t)) (n ∷ []))
-          (numbers_of c xs ++ numbers_of c ys)
-      found_are c t e =
-          subst (All (λ n. Contains (keys_of t (rows_in database t)) (n ∷ [])))
-          (numbers_joined c xs ys)
-          (subst (Found c t) (are_both (xs ++ ys) c t e) (whole.found c t e))
-
-      distinct_first : (t : TableId) → HasDistinctKeys t (rows_in (with_lineorder database xs) t)
-      distinct_first Date = whole.distinct Date
-      distinct_first Customer = whole.distinct Customer
-      distinct_first Supplier = whole.distinct Supplier
-      distinct_first Part = whole.distinct Part
-      distinct_first Lineorder =
-          pairs_first (λ k l. k ≢ l) (keys_of Lineorder xs) (keys_of Lineorder ys) keys_are
-
-      distinct_second : (t : TableId) → HasDistinctKeys t (rows_in (with_lineorder database ys) t)
-      distinct_second Date = whole.distinct Date
-      distinct_second Customer = whole.distinct Customer
-      distinct_second Supplier = whole.distinct Supplier
-      distinct_second Part = whole.distinct Part
-      distinct_second Lineorder =
-          pairs_second (λ k l. k ≢ l) (keys_of Lineorder xs) (keys_of Lineorder ys) keys_are
-
-      pub sound_first : IsSound (with_lineorder database xs)
-      sound_first = record {
-        distinct = distinct_first;
-        found = λ c t e. subst (Found c t) (sym (are_both xs c t e))
-            (all_first (λ x y. Unit {0}) (λ n. Contains (keys_of t (rows_in database t)) (n ∷ []))
-            (numbers_of c xs) (numbers_of c ys) (found_are c t e));
-      }
-
-      pub sound_second : IsSound (with_lineorder database ys)
-      sound_second = record {
-        distinct = distinct_second;
-        found = λ c t e. subst (Found c t) (sym (are_both ys c t e))
-            (all_second (λ x y. Unit {0}) (λ n. Contains (keys_of t (rows_in database t)) (n ∷ []))
-            (numbers_of c xs) (numbers_of c ys) (found_are c t e));
-      }
-
 -- ---- texts that can be loaded
 
 module _ (most : ℕ) (texts : TableTexts) where
@@ -297,55 +245,3 @@ module _ (most : ℕ) (texts : TableTexts) where
       (omega (arith, sum, few))) few
       (across_all part (other ∷ parts) is rest
       (pairs_head (λ a b. are_disjoint a.span b.span ≡ true) part (other ∷ parts) apart))
-
-  -- ---- parts of what can be loaded can be loaded
-
-  module _ (xs ys : List (List ℕ)) (whole : IsLoadable most (with_lineorder_text texts (xs ++ ys)))
-    where
-      sum : length (records_in (xs ++ ys)) ≡ length (records_in xs) + length (records_in ys)
-      sum = records_joined xs ys
-
-      records_are : All (IsRecordOf Lineorder) (records_in xs ++ records_in ys)
-      records_are = subst (All (IsRecordOf Lineorder)) (flat_map-append records_of xs ys)
-          (whole.tables Lineorder).1
-
-      tables_first : (t : TableId) → IsTable t most (with_lineorder_text texts xs t)
-      tables_first Date = whole.tables Date
-      tables_first Customer = whole.tables Customer
-      tables_first Supplier = whole.tables Supplier
-      tables_first Part = whole.tables Part
-      tables_first Lineorder = (
-        omega (arith, sum, (whole.tables Lineorder).0),
-        all_first (λ x y. Unit {0}) (IsRecordOf Lineorder) (records_in xs)
-            (records_in ys) records_are,
-      )
-
-      tables_second : (t : TableId) → IsTable t most (with_lineorder_text texts ys t)
-      tables_second Date = whole.tables Date
-      tables_second Customer = whole.tables Customer
-      tables_second Supplier = whole.tables Supplier
-      tables_second Part = whole.tables Part
-      tables_second Lineorder = (
-        omega (arith, sum, (whole.tables Lineorder).0),
-        all_second (λ x y. Unit {0}) (IsRecordOf Lineorder) (records_in xs)
-            (records_in ys) records_are,
-      )
-
-      sound_whole : IsSound
-          (with_lineorder (database_of texts) (rows_of Lineorder xs ++ rows_of Lineorder ys))
-      sound_whole = subst IsSound
-          (λ i. with_lineorder (database_of texts) (rows_joined Lineorder xs ys i)) whole.sound
-
-      pub loadable_first : IsLoadable most (with_lineorder_text texts xs)
-      loadable_first = record {
-        tables = tables_first;
-        sound = sound_first (database_of texts) (rows_of Lineorder xs) (rows_of Lineorder ys)
-            sound_whole;
-      }
-
-      pub loadable_second : IsLoadable most (with_lineorder_text texts ys)
-      loadable_second = record {
-        tables = tables_second;
-        sound = sound_second (database_of texts) (rows_of Lineorder xs) (rows_of Lineorder ys)
-            sound_whole;
-      }

@@ -1,25 +1,7 @@
 -- What facts tell of a query, totals in any order, and partials by plans.
-use Rattle.std.proofs.Common.{◌≡◌, ◌∙◌, ◌↔◌, ℕ, ◌+◌, ◌≤◌, suc, true, List, [], ◌∷◌, ◌++◌, Option, inl, inr, length, map, refl, sym, subst, ap, arith}
-use Rattle.star_merge_laws.proofs.{Common.{Aggregate, AreFactsOf, AreMerged, Cell, Contains-permutation, Database, Facts, FitsFacts, FitsTables, GroupColumn, GroupRow, IsGroup, IsMergedAnswer, IsPermutation, IsPermutation-append, IsPermutation-append_comm, IsPermutation-map, IsPermutation-refl, IsPermutation-sym, IsPermutation-trans, IsSoundPlan, Partial, Plan, Row, Shape, Tree, Value, aggregate_of, and_from, and_parts, append_assoc, as_row, belongs, bounds_in, column_at, columns_at, filter_reordered, groups_of_partials, is_group_column, length-append, list_all, list_all-append, lt-ltb, ltb-true, measure_fits, measures_of, merged, merged_totals, nat_lt, only, option_map_or, parts_of, plain_plan, pos, reordered, tables_with, total_over, value_cmp, with_lineorder, ℤ}, Totals.{merged_assoc, merged_comm}}
+use Rattle.std.proofs.Common.{◌≡◌, ◌∙◌, ℕ, ◌+◌, ◌≤◌, suc, true, List, [], ◌∷◌, Option, inl, inr, length, map, refl, sym, ap, arith}
+use Rattle.star_merge_laws.proofs.{Common.{Aggregate, AreMerged, Contains-permutation, GroupColumn, GroupRow, IsGroup, IsPermutation, IsPermutation-map, IsPermutation-sym, IsSoundPlan, Plan, Shape, Value, and_from, and_parts, as_row, belongs, columns_at, filter_reordered, is_group_column, length-append, list_all, list_all-append, lt-ltb, ltb-true, merged, merged_totals, nat_lt, parts_of, plain_plan, reordered, total_over, value_cmp, ℤ}, Totals.{merged_assoc, merged_comm}}
 use Rattle.star_schema.specs.declared.group.GroupColumn.TheVariants as group
-
--- ---- whether a query fits hangs on the facts alone
-
-pub fits_by_facts : (database : Database) (rows : List Row) (most : ℕ) (facts : Facts) (q : Tree)
-    → AreFactsOf (with_lineorder database rows) facts
-    → FitsFacts most facts q ↔ FitsTables most (tables_with database rows) q
-fits_by_facts database rows most facts q are =
-    let bounds : facts.bounds ≡ bounds_in (tables_with database rows) = λ i c. are.bounds c i in
-    let nodes = ap (λ (b : _). list_all (measure_fits
-    (λ n. option_map_or b (column_at n) (only (pos 0))))
-    (measures_of q.items)) bounds in (
-      λ h. record { visits = subst (λ n. n ≤ most) are.rows h.visits; nodes = sym nodes ∙ h.nodes },
-      λ h. record {
-        visits = subst (λ n. n ≤ most) (sym are.rows) h.visits;
-        nodes = nodes
-            ∙ h.nodes;
-      },
-    )
 
 -- ---- totals together, in any order of the groups
 
@@ -128,45 +110,3 @@ module _ (s : Shape) (count : ℕ) (gs : List Aggregate) where
     );
     all = λ keys is. are.all keys (group_moved ys xs (IsPermutation-sym xs ys h) keys is);
   }
-
-told_under : (x : Partial) (xs ys : List Partial)
-    → IsPermutation (groups_of_partials xs) (groups_of_partials ys)
-    → IsPermutation (groups_of_partials (x ∷ xs)) (groups_of_partials (x ∷ ys))
-told_under x xs ys h =
-    IsPermutation-append x.groups x.groups (groups_of_partials xs) (groups_of_partials ys)
-    (IsPermutation-refl x.groups) h
-
-told_turned : (x y : Partial) (xs : List Partial)
-    → IsPermutation (groups_of_partials (x ∷ y ∷ xs)) (groups_of_partials (y ∷ x ∷ xs))
-told_turned x y xs =
-    subst (IsPermutation (x.groups ++ (y.groups ++ groups_of_partials xs)))
-    (append_assoc y.groups x.groups (groups_of_partials xs))
-    (subst (λ gs. IsPermutation gs ((y.groups ++ x.groups) ++ groups_of_partials xs))
-    (append_assoc x.groups y.groups (groups_of_partials xs))
-    (IsPermutation-append (x.groups ++ y.groups) (y.groups ++ x.groups) (groups_of_partials xs)
-    (groups_of_partials xs) (IsPermutation-append_comm x.groups y.groups)
-    (IsPermutation-refl (groups_of_partials xs))))
-
-told_reordered : (xs ys : List Partial) → IsPermutation xs ys
-    → IsPermutation (groups_of_partials xs) (groups_of_partials ys)
-told_reordered =
-    reordered (λ xs ys. IsPermutation (groups_of_partials xs) (groups_of_partials ys))
-    (λ xs. IsPermutation-refl (groups_of_partials xs))
-    (λ xs ys zs a b. IsPermutation-trans (groups_of_partials xs) (groups_of_partials ys)
-    (groups_of_partials zs) a b)
-    told_under told_turned
-
--- what is made of partials doesn't hang on their order
-pub answer_moved : (q : Tree) (xs ys : List Partial) (names : List (List ℕ))
-    (rows : List (List Cell)) → IsPermutation xs ys → IsMergedAnswer q xs names rows
-    → IsMergedAnswer q ys names rows
-answer_moved q xs ys names rows h a = record {
-  headed = a.headed;
-  groups = a.groups;
-  merged = merged_moved q.grouping.shape (length q.grouping.columns)
-      (map aggregate_of (measures_of q.items)) (groups_of_partials xs)
-      (groups_of_partials ys) a.groups
-      (told_reordered xs ys h) a.merged;
-  in_order = a.in_order;
-  cells = a.cells;
-}

@@ -1,6 +1,6 @@
 -- The rows that a plan selects of lineorder's rows are those that it selects of each part.
-use Rattle.std.proofs.{Common.{◌≡◌, ◌∙◌, ℕ, ◌+◌, true, List, [], ◌∷◌, ◌++◌, Option, Some, None, refl, sym, ap, true≢false, arith}, lemmas.Grind.common_steps}
-use Rattle.star_merge_laws.proofs.{Common.{Database, Join, Joined, Lineorder, Plan, Row, TableId, all_of, and_parts, filter, filter-append, flat_map, flat_map-append, is_foreign, joined_rows, list_all, matches, only_row, partners, plan_rows, references, refers, rows_in, sum_by, table_of, table_same, tables_with, with_row}, LoadableParts.{IsBeside, referred_beside, rows_beside}}
+use Rattle.std.proofs.Common.{◌≡◌, ◌∙◌, ◌+◌, true, List, [], ◌∷◌, ◌++◌, Option, Some, None, refl, sym, ap, true≢false, arith}
+use Rattle.star_merge_laws.proofs.{Common.{Database, Join, Joined, Lineorder, Plan, Row, TableId, all_of, and_parts, filter, filter-append, flat_map, flat_map-append, is_foreign, joined_rows, list_all, matches, only_row, partners, plan_rows, references, refers, rows_in, table_of, table_same, tables_with, with_row}, LoadableParts.{IsBeside, referred_beside, rows_beside}}
 
 -- ---- joins are with other tables than lineorder
 
@@ -40,13 +40,6 @@ module _ (database : Database) where
     joined_together xs ys =
         joined_with_partners (xs ++ ys) ∙ flat_map-append partners_of xs ys
         ∙ (λ i. sym (joined_with_partners xs) i ++ sym (joined_with_partners ys) i)
-
-    pub counted_of_parts : (count : Joined → ℕ) (parts : List (List Row))
-        → sum_by count (joined_rows (tables_with database (all_of parts)) js)
-        ≡ sum_by (λ part. sum_by count (joined_rows (tables_with database part) js)) parts
-    counted_of_parts count [] = refl
-    counted_of_parts count (part ∷ parts) =
-        grind (arith, common_steps, counted_of_parts count parts, joined_together, all_of)
 
   module _ (p : Plan) (foreign : AreForeign p.joins) where
     pub selected_together : (xs ys : List Row) → plan_rows (tables_with database (xs ++ ys)) p

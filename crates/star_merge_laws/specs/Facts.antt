@@ -1,9 +1,8 @@
 -- The facts that decide the refusals of a query: the row count of lineorder and the bounds of
 -- columns.
-use Rattle.std.specs.Prelude.{◌≡◌, ◌+◌, ℕ, zero, suc, All, List, [], ◌∷◌, length}
+use Rattle.std.specs.Prelude.{◌≡◌, ◌+◌, ℕ, zero, suc, length}
 use Rattle.star_interval.specs.Range.{Range, hull}
-use Rattle.star_schema.specs.{declared.column.ColumnId.ColumnId, declared.table.TableId.TheVariants.Lineorder, Columns.bounds_in, Database.Database, Database.rows_in, Tables.Value}
-use Rattle.star_merge_laws.specs.Parts.{with_lineorder}
+use Rattle.star_schema.specs.{declared.column.ColumnId.ColumnId, declared.table.TableId.TheVariants.Lineorder, Columns.bounds_in, Database.Database, Database.rows_in}
 
 -- the row count of lineorder, and the bounds of each column
 pub record Facts : Type 0 where
@@ -27,17 +26,3 @@ joined_facts a b =
       rows = a.rows + b.rows;
       bounds = λ c. hull_of_rows a.rows b.rows (a.bounds c) (b.bounds c);
     }
-
--- the facts of some parts together; there is at least one
-abbrev pub all_facts : Facts → List Facts → Facts
-all_facts first [] = first
-all_facts first (next ∷ more) = joined_facts first (all_facts next more)
-
--- some rows of lineorder with their facts
-pub record RowsWithFacts : Type 0 where
-  pub rows : List (List Value)
-  pub facts : Facts
-
-abbrev pub HaveFacts : Database → List RowsWithFacts → Type 0
-HaveFacts database parts =
-    All (λ part. AreFactsOf (with_lineorder database part.rows) part.facts) parts

@@ -3,7 +3,4 @@ pub mod Parts
 pub mod Facts
 pub mod Tables
 pub mod Plain
-pub mod Partials
 pub mod Regrouping
-pub mod Spans
-pub mod Outputs

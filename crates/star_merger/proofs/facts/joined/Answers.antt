@@ -18,7 +18,7 @@ returns c = λ database rows others h k.
       part = partial.sizes.part;
       lineorder = c.in_ok-rows.rows;
     })) (bounds_at partial.bounds) (bounds_at more.bounds) (bounds_at joined) h k
-    (c.facts_are_made_of_those_of_parts.ensures.two database rows others
+    (c.facts_are_made_of_those_of_parts.ensures database rows others
     (record { rows = partial.sizes.lineorder; bounds = bounds_at partial.bounds })
     (record { rows = more.sizes.lineorder; bounds = bounds_at more.bounds })
     (record { rows = h.sizes Lineorder; bounds = h.bounds })
