@@ -13,3 +13,4 @@ pub mod Room
 pub mod JoinedValues
 pub mod PlainCells
 pub mod SpelledOf
+pub mod Opened

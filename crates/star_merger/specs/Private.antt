@@ -5,3 +5,4 @@ pub mod Checked
 pub mod Outcomes
 pub mod Written
 pub mod Digits
+pub mod Inside

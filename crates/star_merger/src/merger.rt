@@ -3,7 +3,7 @@
 ghost use Rattle.std.specs.Prelude.{◌≡◌, ℕ, IfOk, List, MatchResult};
 ghost use Rattle.star_schema.specs.Database.{Database};
 ghost use Rattle.star_partial.specs.{Contents.Contents, Text.partial_text};
-ghost use Rattle.star_merger.specs.{Partials.contents_of, Columns.{column_kinds, column_names}, Mergers.IsMergerOf, Spelled.IsSpelled, Texts.IsPartialText};
+ghost use Rattle.star_merger.specs.{Partials.contents_of, Columns.{column_kinds, column_names, plan_columns}, Mergers.IsMergerOf, Spelled.IsSpelled, Texts.IsPartialText};
 ghost use Rattle.star_engine.specs.{Answered.OrMemory, Queries.IsQueryError};
 
 use crate::columns::{PartialColumn, columns_of};
@@ -16,8 +16,10 @@ use star_plan::{Plan, plan};
 use star_program::Program;
 use star_query::Query;
 use std::alloc::Global;
+use std::marker::Model;
 
-/// A query whose partials are merged. It is read before any partial.
+/// A query whose partials are merged. It is read before any partial. A contract sees its text and
+/// its plan.
 pub struct Merger {
     pub(crate) query: Vec<u8>,
     pub(crate) plan: Plan,
@@ -34,6 +36,22 @@ impl Drop for Merger {
             columns,
         } = self;
     }
+}
+
+impl Model for Merger {
+    ghost use Rattle.std.specs.Coded.{codes};
+    ghost use Rattle.star_plan.specs.contracts.tree.PlanTree.{the_row};
+    ghost use Rattle.star_merger.specs.Mergers.{PlannedQuery};
+
+    ghost Value = { PlannedQuery };
+
+    ghost coded = { Prim.hlevel (codes, the_row.coded) };
+
+    ghost use Rattle.star_merger.specs.Private.Inside.{IsOfPlan, planned_query};
+
+    ghost view = { planned_query };
+
+    ghost invariant = { IsOfPlan };
 }
 
 impl Merger {
@@ -58,9 +76,10 @@ impl Merger {
     pub fn read(&self, alloc: Global, text: &[u8]) -> Result<Partial, PartialFault>
         ensures text { (query : List ℕ) → IsMergerOf query self.now
             → IfOk result (λ partial. text.now ≡ partial_text query (contents_of partial)) }
-        ensures same { (query : List ℕ) (written : Contents) → IsMergerOf query self.now
-            → IsSpelled (column_names self.now.columns.items) (column_kinds self.now.columns.items)
-            written → text.now ≡ partial_text query written
+        ensures same { (query : List ℕ) (written : Contents) (is : IsMergerOf query self.now)
+            → let columns = plan_columns is.p in
+            IsSpelled (column_names columns) (column_kinds columns) written
+            → text.now ≡ partial_text query written
             → IfOk result (λ partial. contents_of partial ≡ written) }
         ensures written { (most : ℕ) (database : Database) (query : List ℕ)
             (is : IsPartialText most database query text.now) → IsMergerOf query self.now

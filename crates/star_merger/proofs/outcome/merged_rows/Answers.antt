@@ -1,7 +1,7 @@
 use Rattle.std.{proofs.Common.{◌≡◌, ◌∙◌, ℕ, List, ap, length, map, rules, subst, sym}, specs.Prelude.IfOk, specs.List.flat_map}
 use Rattle.star_plan.specs.{Meaning.Plan, Views.plan_view}
 use Rattle.star_merge.specs.{Cells.group_of, Merged.AreOfShape, Merged.IsMergedRows}
-use Rattle.star_merger.specs.Mergers.{IsMergerOf}
+use Rattle.star_merger.{specs.Mergers.IsMergerOf, proofs.Opened.{plan_is, program_is}}
 use Rattle.star_merger.proofs.outcome.merged_rows.Goals as goal
 
 pub returns : goal.returns
@@ -9,13 +9,16 @@ returns c =
     let tree = c.tree-tree.result.now in
     let counted : c.len.result ≡ length tree.keys.items = search rules in
     let plan = λ (query : List ℕ) (is : IsMergerOf query c.args.merger.now).
-    ap plan_view c.tree-tree.ensures.same ∙ is.planned in
+    ap plan_view c.tree-tree.ensures.same
+    ∙ plan_is query c.merger.inside c.args.merger.now c.merger.view_is c.merger.invariant is in
     let count = λ (query : List ℕ) (is : IsMergerOf query c.args.merger.now).
     counted ∙ ap (λ (p : Plan). length p.keys) (plan query is) in
     record {
       merged = λ query is groups shown shaped.
           let shape = ap (λ (p : Plan). p.shape) (plan query is) in
-          let aggregates = c.in_ok-aggregates.ensures is.p is.program in
+          let aggregates = c.in_ok-aggregates.ensures is.p
+          (program_is query c.merger.inside c.args.merger.now c.merger.view_is c.merger.invariant
+          is) in
           let sorts = c.deref.ensures.value ∙ ap (λ (p : Plan). p.sorts) (plan query is) in
           let items = c.deref-2.ensures.value ∙ ap (λ (p : Plan). p.items) (plan query is) in
           subst (λ (X : Type 0). X)

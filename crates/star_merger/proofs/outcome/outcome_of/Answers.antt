@@ -1,5 +1,5 @@
 use Rattle.std.{proofs.Common.{◌∙◌, ◌++◌, ap, length, map, refl, sym}, proofs.lemmas.Result.err_from_is_err_and, specs.List.flat_map}
-use Rattle.star_merger.{specs.Partials.contents_of, specs.Private.Outcomes.{all_shown, groups_of}, proofs.Outcomes.{mapped, names_shown}}
+use Rattle.star_merger.{specs.Partials.contents_of, specs.Private.Outcomes.{all_shown, groups_of}, proofs.Opened.program_is, proofs.Outcomes.{mapped, names_shown}}
 use Rattle.star_merge.specs.Cells.{group_of}
 use Rattle.star_merger.proofs.outcome.outcome_of.Goals as goal
 
@@ -7,7 +7,8 @@ pub returns-in-Ok-clause-merged : goal.returns-in-Ok-clause-merged
 returns-in-Ok-clause-merged c = λ query is.
     let all = map contents_of c.args.partials.now in
     let shows = c.as_slice.ensures
-    ∙ ap (λ parts. parts.shows) (c.parts.ensures.same ∙ is.program) in
+    ∙ ap (λ parts. parts.shows) (c.parts.ensures.same
+    ∙ program_is query c.merger.inside c.args.merger.now c.merger.view_is c.merger.invariant is) in
     let shown = ap (map (λ rows. rows.now)) c.deref-2.ensures.value
     ∙ c.in_ok-push_reports.ensures.shown
     ∙ ap (λ rows. map (λ rows. rows.now) rows ++ all_shown all) c.new-reports.ensures.items in

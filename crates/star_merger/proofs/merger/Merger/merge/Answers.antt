@@ -1,7 +1,7 @@
 use Rattle.std.{proofs.Common.{◌≡◌, ◌∙◌, List, None, ◌∷◌, arith, map, refl, subst, sym, ℕ}, specs.List.All}
 use Rattle.star_schema.specs.{Loadable.database_of, declared.table.TableId.TheVariants.Lineorder, Sizes.size_of}
 use Rattle.star_partial.specs.Contents.{Contents, bounds_at}
-use Rattle.star_merger.{specs.Partials.contents_of, specs.Merged.{IsOverlap, spans_of}, specs.Private.Checked.AreDisjointSpans, specs.Private.Outcomes.{HasRoom, IsUnmerged}, specs.Private.Shown.IsUsable, specs.Private.Written.IsMergedTelling, specs.TextShares.{all_contents, whole_texts}, proofs.JoinedFacts.are_facts, proofs.Room.has_room, proofs.Results.{as_noted, merged_as, none_fits, none_unmerged, not_checked, refused_after, unfit, unprinted, unprinted_same}, proofs.TextBytes.quote_some, proofs.TextParts.{all_dimensions, contents_same, disjoint_parts, own_shares, row_share, row_shares, whole_loadable}, proofs.Told.{count_moved, known_moved, loaded, parts_moved, quote_due, refusal_due, room_moved, shares_moved, telling_due, telling_moved, too_many_due, usable_moved, whole_rows}, proofs.Usable.usable, proofs.Whole.own_facts}
+use Rattle.star_merger.{specs.Partials.contents_of, specs.Merged.{IsOverlap, spans_of}, specs.Private.Checked.AreDisjointSpans, specs.Private.Outcomes.{HasRoom, IsUnmerged}, specs.Private.Shown.IsUsable, specs.Private.Written.IsMergedTelling, specs.TextShares.{all_contents, whole_texts}, proofs.JoinedFacts.are_facts, proofs.Opened.program_is, proofs.Room.has_room, proofs.Results.{as_noted, merged_as, none_fits, none_unmerged, not_checked, refused_after, unfit, unprinted, unprinted_same}, proofs.TextBytes.quote_some, proofs.TextParts.{all_dimensions, contents_same, disjoint_parts, own_shares, row_share, row_shares, whole_loadable}, proofs.Told.{count_moved, known_moved, loaded, parts_moved, quote_due, refusal_due, room_moved, shares_moved, telling_due, telling_moved, too_many_due, usable_moved, whole_rows}, proofs.Usable.usable, proofs.Whole.own_facts}
 use Rattle.star_program.specs.World.{World}
 use Rattle.star_safety.specs.Admissible.{first_refusal}
 use Rattle.star_verify.specs.{Facts.AreFacts, Views.refusal_view}
@@ -70,7 +70,8 @@ returns-in-Ok-forecast-clause-merged g c =
     (subst (λ (all : List Contents). AreDisjointSpans (spans_of all)) same
     (checked.disjoint not)))) in
     let none : first_refusal (world_of over) visits (compiled is.p) ≡ None =
-    subst (λ program. first_refusal (world_of over) visits program ≡ None) is.program
+    subst (λ program. first_refusal (world_of over) visits program ≡ None)
+    (program_is query c.self.inside c.args.self.now c.self.view_is c.self.invariant is)
     (c.in-Ok-forecast.ensures.accepted (world_of over)
     (are_facts over facts (omega arith) known)) in
     let loaded_ys = loaded rows visits texts query hash other others are_ys loads is.p is.meant in
@@ -149,7 +150,7 @@ returns-clause-merged g c = λ query hash texts share other shares others is are
     (refused_after out notes (IsQueryQuote rows whole query) (IsQueryRun rows visits whole query)
     (IsQueryRunError rows visits whole query) note c.in-Err-forecast.refusal
     ((w : World) → AreFacts w facts
-    → first_refusal w visits c.args.self.now.program ≡ refusal_view c.in-Err-forecast.refusal)
+    → first_refusal w visits c.self.inside.program ≡ refusal_view c.in-Err-forecast.refusal)
     c.write_refused.result c.in-Err-forecast.ensures.refused
     (λ told not_memory. refusal_due rows visits texts query hash other others are_ys loads is.p
     is.meant
@@ -161,7 +162,8 @@ returns-clause-merged g c = λ query hash texts share other shares others is are
     (compiled is.p)) c.in-Err-forecast.refusal (laws.costly visits over is.p)
     (laws.wide visits over query is.p is.meant) (laws.first visits over query is.p is.meant)
     (subst (λ program. first_refusal (world_of over) visits program
-    ≡ refusal_view c.in-Err-forecast.refusal) is.program
+    ≡ refusal_view c.in-Err-forecast.refusal)
+    (program_is query c.self.inside c.args.self.now c.self.view_is c.self.invariant is)
     (told (world_of over) facts_known)) not_memory))
     refl
     (quote_due rows visits texts query hash other others are_ys loads is.p is.meant
