@@ -1,5 +1,5 @@
 -- Rows that are added up have the keys and the totals of the rows that they are made of.
-use Rattle.std.{proofs.Common.{◌≡◌, ◌∙◌, ℕ, ◌+◌, Bool, true, false, ◌||◌, List, [], ◌∷◌, ◌++◌, Option, cond, refl, sym, ap}, proofs.lemmas.List.Elements.{All-cons, All-head, All-nil, All-tail}, specs.Prelude.{ℤ, filter}, specs.Bool.Decides, specs.List.All, specs.Ordering.is_eq, specs.declared.cmp.Ordering.Ordering}
+use Rattle.std.{proofs.Common.{◌≡◌, ◌∙◌, ℕ, ◌+◌, Bool, true, false, ◌||◌, List, [], ◌∷◌, ◌++◌, Option, cond, arith, refl, sym, ap}, proofs.lemmas.List.Elements.{All-cons, All-head, All-nil, All-tail}, specs.Prelude.{ℤ, filter}, specs.Bool.Decides, specs.List.All, specs.Ordering.is_eq, specs.declared.cmp.Ordering.Ordering}
 use Rattle.star_schema.specs.{declared.group.Aggregate.Aggregate, declared.group.Aggregate.TheVariants.{Sum, Count, Min, Max}, Groups.{GroupRow, aggregate, totals_from, totals_of}}
 use Rattle.star_merge_laws.{specs.Merging.{merged, merged_totals, total_over}, specs.Regrouping.are_same, proofs.Totals.{merged_assoc, merged_comm}, proofs.Regrouping.keys_are}
 use Rattle.star_merge.specs.Private.Adding.{AddUpAlike, alone, is_there, onto, together, total_at}
@@ -104,57 +104,19 @@ module _ {K : Type 0} (cmp : K → K → Ordering)
   onto_there : (keys : List (Option K)) (row : GroupRow K) (rows : List (GroupRow K))
       → there keys (onto cmp gs row rows) ≡ there keys (row ∷ rows)
   onto_there keys row [] = refl
-  onto_there keys row (next ∷ rows) = by (same row.keys next.keys) refl
-    where
-      by : (b : Bool) → same row.keys next.keys ≡ b
-          → there keys (cond b (record {
-            keys = row.keys;
-            totals =
-                merged_totals gs row.totals next.totals;
-          } ∷ rows)
-          (alone gs row ∷ next ∷ rows)) ≡ there keys (row ∷ next ∷ rows)
-      by true e = or_twice (same keys row.keys) (there keys rows)
-          ∙ ap (λ ks. same keys row.keys || (same keys ks || there keys rows))
-          (keys_are cmp decides row.keys next.keys e)
-      by false e = refl
+  onto_there keys row (next ∷ rows) =
+      grind (arith, keys_are cmp decides row.keys next.keys, or_twice)
 
   onto_at : (keys : List (Option K)) (row : GroupRow K) (rows : List (GroupRow K))
       → at keys (onto cmp gs row rows) ≡ at keys (row ∷ rows)
-  onto_at keys row [] = by (same keys row.keys)
-    where
-      by : (b : Bool) → total_over gs (with_first b (alone gs row) [])
-          ≡ total_over gs (with_first b row [])
-      by true = alone_over gs row []
-      by false = refl
-  onto_at keys row (next ∷ rows) = by (same row.keys next.keys) refl
-    where
-      alone_first : (b : Bool) (more : List (GroupRow K))
-          → total_over gs (with_first b (alone gs row) more) ≡ total_over gs (with_first b row more)
-      alone_first true more = alone_over gs row more
-      alone_first false more = refl
-
-      both : (b : Bool) (more : List (GroupRow K))
-          → total_over gs (with_first b (record {
-            keys = row.keys;
-            totals =
-                merged_totals gs row.totals next.totals;
-          }) more)
-          ≡ total_over gs (with_first b row (with_first b next more))
-      both true more = totals_assoc gs row.totals next.totals (total_over gs more)
-      both false more = refl
-
-      by : (b : Bool) → same row.keys next.keys ≡ b
-          → at keys (cond b (record {
-            keys = row.keys;
-            totals =
-                merged_totals gs row.totals next.totals;
-          } ∷ rows)
-          (alone gs row ∷ next ∷ rows)) ≡ at keys (row ∷ next ∷ rows)
-      by true e = both (same keys row.keys) (with_keys keys rows)
-          ∙ ap (λ ks. total_over gs (with_first (same keys row.keys) row
-          (with_first (same keys ks) next (with_keys keys rows))))
-          (keys_are cmp decides row.keys next.keys e)
-      by false e = alone_first (same keys row.keys) (with_keys keys (next ∷ rows))
+  onto_at keys row [] = grind (arith, alone_over gs row [])
+  onto_at keys row (next ∷ rows) =
+      grind (
+        arith,
+        keys_are cmp decides row.keys next.keys,
+        alone_over gs row,
+        totals_assoc gs row.totals next.totals,
+      )
 
   -- ---- all rows
 
@@ -170,19 +132,10 @@ module _ {K : Type 0} (cmp : K → K → Ordering)
       kept keys (row ∷ rows) =
           onto_there keys row (sums rows) ∙ ap (λ b. same keys row.keys || b) (kept keys rows)
 
-      first : (b : Bool) (row : GroupRow K) (xs ys : List (GroupRow K))
-          → total_over gs xs ≡ total_over gs ys
-          → total_over gs (with_first b row xs) ≡ total_over gs (with_first b row ys)
-      first true row xs ys e = ap (merged_totals gs row.totals) e
-      first false row xs ys e = e
-
       added : (keys : List (Option K)) (rows : List (GroupRow K))
           → at keys (sums rows) ≡ at keys rows
       added keys [] = refl
-      added keys (row ∷ rows) =
-          onto_at keys row (sums rows)
-          ∙ first (same keys row.keys) row (with_keys keys (sums rows)) (with_keys keys rows)
-          (added keys rows)
+      added keys (row ∷ rows) = grind (arith, onto_at keys row (sums rows), added keys rows)
 
   abbrev IsWhole : GroupRow K → Type 0
   IsWhole row = (alone gs row).totals ≡ row.totals
@@ -190,17 +143,15 @@ module _ {K : Type 0} (cmp : K → K → Ordering)
   onto_whole : (row : GroupRow K) (rows : List (GroupRow K)) → All IsWhole rows
       → All IsWhole (onto cmp gs row rows)
   onto_whole row [] all = All-cons IsWhole (alone gs row) [] (alone_twice gs row) (All-nil IsWhole)
-  onto_whole row (next ∷ rows) all = by (same row.keys next.keys)
-    where
-      by : (b : Bool) → All IsWhole (cond b
-          (record { keys = row.keys; totals = merged_totals gs row.totals next.totals } ∷ rows)
-          (alone gs row ∷ next ∷ rows))
-      by true = All-cons IsWhole
-          (record { keys = row.keys; totals = merged_totals gs row.totals next.totals }) rows
-          (totals_assoc gs row.totals next.totals (totals_of {K = K} gs [])
-          ∙ ap (merged_totals gs row.totals) (All-head IsWhole next rows all))
-          (All-tail IsWhole next rows all)
-      by false = All-cons IsWhole (alone gs row) (next ∷ rows) (alone_twice gs row) all
+  onto_whole row (next ∷ rows) all =
+      grind (
+        arith,
+        All-cons IsWhole,
+        All-head IsWhole next rows all,
+        All-tail IsWhole next rows all,
+        alone_twice gs row,
+        totals_assoc gs row.totals next.totals (totals_of {K = K} gs []),
+      )
 
   pub together_whole : (rows : List (GroupRow K)) → All IsWhole (sums rows)
   together_whole [] = All-nil IsWhole

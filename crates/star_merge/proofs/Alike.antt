@@ -1,5 +1,5 @@
 -- Rows that add up alike: in any order, one after another, and as sums.
-use Rattle.std.{proofs.Common.{◌≡◌, ◌∙◌, Bool, true, false, ◌||◌, List, [], ◌∷◌, ◌++◌, Option, Some, None, cond, refl, sym, subst, ap, true≢false, ⊎_elim}, proofs.lemmas.Bool.{or_cases, or_left, or_parts, or_from, or_right}, proofs.lemmas.List.Elements.{All-head, All-tail, filter-append}, proofs.lemmas.List.Folds.list_any-append, proofs.lemmas.List.Sorted.All-permutation, specs.Prelude.{ℤ, filter}, specs.Bool.Decides, specs.Cmp.Lexicographic.slice_cmp, specs.List.{All, Contains}, specs.List.Sorted.IsPermutation, specs.Ordering.{is_eq, ordering_then}, specs.declared.cmp.Ordering.Ordering, specs.declared.cmp.Ordering.TheVariants.{Less, Equal, Greater}}
+use Rattle.std.{proofs.Common.{◌≡◌, ◌∙◌, Bool, true, false, ◌||◌, List, [], ◌∷◌, ◌++◌, Option, Some, None, cond, arith, refl, sym, subst, ap, true≢false, ⊎_elim}, proofs.lemmas.Bool.{or_cases, or_left, or_parts, or_from, or_right}, proofs.lemmas.List.Elements.{All-head, All-tail, filter-append}, proofs.lemmas.List.Folds.list_any-append, proofs.lemmas.List.Sorted.All-permutation, specs.Prelude.{ℤ, filter}, specs.Bool.Decides, specs.Cmp.Lexicographic.slice_cmp, specs.List.{All, Contains}, specs.List.Sorted.IsPermutation, specs.Ordering.{is_eq, ordering_then}, specs.declared.cmp.Ordering.Ordering, specs.declared.cmp.Ordering.TheVariants.{Less, Equal, Greater}}
 use Rattle.star_common.proofs.Members.{contains_cases, contains_here, contains_later, contains_none}
 use Rattle.star_schema.specs.{declared.group.Aggregate.Aggregate, Groups.GroupRow, Order.key_cmp}
 use Rattle.star_merge_laws.{specs.Merging.{merged_totals, total_over}, specs.Regrouping.are_same, proofs.Regrouping.keys_are}
@@ -36,12 +36,7 @@ module _ {K : Type 0} (cmp : K → K → Ordering)
       then_equal (key_cmp cmp k k) (slice_cmp (key_cmp cmp) ks ks) (key_itself k) (same_itself ks)
 
   not_same : (a b : List (Option K)) → same a b ≡ false → same b a ≡ false
-  not_same a b e = by (same b a) refl
-    where
-      by : (c : Bool) → same b a ≡ c → c ≡ false
-      by false h = refl
-      by true h = absurd (true≢false (sym (same_itself a)
-          ∙ ap (same a) (sym (keys_are cmp decides b a h)) ∙ e))
+  not_same a b e = grind (arith, same_itself a, keys_are cmp decides b a)
 
   pub from_there : (keys : List (Option K)) (rows : List (GroupRow K)) → there keys rows ≡ true
       → (row : GroupRow K) × Contains rows row × (row.keys ≡ keys)
@@ -211,12 +206,8 @@ module _ {K : Type 0} (cmp : K → K → Ordering)
         (contains_cases first rows row c)
       where
         other : Contains rows row → same row.keys first.keys ≡ false
-        other later = by (same row.keys first.keys) refl
-          where
-            by : (b : Bool) → same row.keys first.keys ≡ b → b ≡ false
-            by false e = refl
-            by true e = absurd (true≢false (sym (to_there row rows later)
-                ∙ ap (λ ks. there ks rows) (keys_are cmp decides row.keys first.keys e) ∙ apart.0))
+        other later =
+            grind (arith, to_there row rows later, keys_are cmp decides row.keys first.keys, apart.0)
 
     -- each sum has the merged totals under its keys
     pub totals_of_sum : (rows sums : List (GroupRow K)) → AreSums cmp gs rows sums

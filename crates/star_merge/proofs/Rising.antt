@@ -1,5 +1,5 @@
 -- Neighbours of sorted rows that become one: no keys are there twice.
-use Rattle.std.{proofs.Common.{◌≡◌, ◌∙◌, suc, ◌+◌, Bool, true, false, ◌||◌, List, [], ◌∷◌, Option, cond, get_or, refl, sym, subst, ap, arith, true≢false}, proofs.lemmas.Bool.or_from, specs.Bool.Decides, specs.Cmp.IsTotalOrder, specs.Cmp.Lexicographic.slice_cmp, specs.List.Sorted.IsSortedBy, specs.Ordering.{is_eq, is_lt, ordering_reverse}, specs.declared.cmp.Ordering.Ordering, specs.declared.cmp.Ordering.TheVariants.{Less, Equal, Greater}}
+use Rattle.std.{proofs.{Common.{◌≡◌, ◌∙◌, suc, ◌+◌, Bool, true, false, ◌||◌, List, [], ◌∷◌, Option, cond, get_or, refl, sym, subst, ap, arith}, lemmas.Bool.or_from}, specs.{Bool.Decides, Cmp.{IsTotalOrder, Lexicographic.slice_cmp}, List.Sorted.IsSortedBy, Ordering.{is_eq, is_lt}, declared.cmp.Ordering.{Ordering, TheVariants.Less}}}
 use Rattle.star_schema.specs.{declared.group.Aggregate.Aggregate, Groups.GroupRow, Order.key_cmp}
 use Rattle.star_merge_laws.{specs.Merging.merged_totals, specs.Regrouping.are_same, proofs.Regrouping.keys_are}
 use Rattle.star_merge.{specs.Private.Adding.{AreApart, AreSums, alone, is_there, onto, together}, proofs.Adding.{together_alike, together_whole}}
@@ -59,13 +59,7 @@ module _ {K : Type 0} (cmp : K → K → Ordering)
 
   is_less : (a b : GroupRow K) → is_lt (by_keys b a) ≡ false → are_same cmp a.keys b.keys ≡ false
       → by_keys a b ≡ Less
-  is_less a b not_less not_same = by (by_keys a b) refl
-    where
-      by : (o : Ordering) → by_keys a b ≡ o → o ≡ Less
-      by Less e = refl
-      by Equal e = absurd (true≢false (sym (ap is_eq e) ∙ not_same))
-      by Greater e = absurd (true≢false (sym (ap is_lt (order.antisymm b.keys a.keys
-          ∙ ap ordering_reverse e)) ∙ not_less))
+  is_less a b not_less not_same = grind (arith, order.antisymm b.keys a.keys)
 
   module _ (gs : List Aggregate) where
     record Headed (own : List (Option K)) (rows : List (GroupRow K)) : Type 0 where
@@ -97,22 +91,8 @@ module _ {K : Type 0} (cmp : K → K → Ordering)
 
     onto_up : (row next : GroupRow K) (rows : List (GroupRow K)) → is_lt (by_keys next row) ≡ false
         → AreUp (next ∷ rows) → AreUp (onto cmp gs row (next ∷ rows))
-    onto_up row next rows not_less up = by (are_same cmp row.keys next.keys) refl
-      where
-        by : (b : Bool) → are_same cmp row.keys next.keys ≡ b → AreUp (cond b
-            (record { keys = row.keys; totals = merged_totals gs row.totals next.totals } ∷ rows)
-            (alone gs row ∷ next ∷ rows))
-        by true e = (
-          less_again row.keys
-              (record {
-                keys = row.keys;
-                totals =
-                    merged_totals gs row.totals next.totals;
-              }) next rows
-              (keys_are cmp decides row.keys next.keys e) up.0,
-          up.1,
-        )
-        by false e = (is_less row next not_less e, up)
+    onto_up row next rows not_less up =
+        grind (arith, keys_are cmp decides row.keys next.keys, less_again, is_less)
 
     together_up : (rows : List (GroupRow K)) → AreRising rows → AreUp (together cmp gs rows)
     together_up [] up = tt
