@@ -2,19 +2,11 @@
 
 ghost use Rattle.std.specs.Prelude.{◌≡◌, All, ℕ, List, None, true};
 ghost use Rattle.star_schema.specs.Database.{Database};
-ghost use Rattle.star_interval.specs.Interval.{range_of};
-ghost use Rattle.star_partial.specs.{Contents.bounds_at};
 ghost use Rattle.star_merger.specs.{Partials.contents_of, Private.Checked.HasDimensions};
 
 use crate::partial::Partial;
-use star_interval::Interval;
+use star_partial::bounds_of;
 use star_schema::{COLUMNS, ColumnId, TABLES, TableId, is_table, table_of};
-
-pub(crate) fn bounds_of(bounds: &[Interval; 58], column: ColumnId) -> Interval
-    ensures { range_of result ≡ bounds_at bounds.now column }
-{
-    bounds[column as usize]
-}
 
 // Tests whether two partials have the same bounds of a column, if it is one of a dimension.
 fn have_equal_column(a: &Partial, b: &Partial, column: ColumnId) -> bool

@@ -8,9 +8,8 @@ ghost use Rattle.star_engine.specs.{Loads.AreLoadedRows, Loads.AreOfLoadableText
 ghost use Rattle.star_merger.specs.{Columns.column_kinds, Columns.column_names, Columns.kind_view, Columns.plan_columns, Private.Digits.HasCellDigits, Spelled.HasBounds, Spelled.HasCounts, Spelled.IsSpelled, Spelled.IsSpelledKey, Spelled.IsSpelledRun, Spelled.IsSpelledSpan};
 
 use crate::columns::PartialColumn;
-use crate::dimensions::bounds_of;
 use star_interval::Interval;
-use star_partial::{ColumnKind, LineKey, Partial, Span};
+use star_partial::{ColumnKind, LineKey, Partial, Span, bounds_of};
 use star_program::{CellRows, CellView, KeptCell, Name, Outcome};
 use star_schema::{COLUMNS, ColumnId, Sizes, is_text};
 

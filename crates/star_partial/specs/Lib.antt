@@ -1,5 +1,4 @@
 pub mod Listing
 pub mod Counts
-pub mod Numbers
 pub mod Contents
 pub mod Text

@@ -7,5 +7,5 @@ mod partial;
 mod writing;
 
 pub use counts::counts_text;
-pub use listing::list_tables;
+pub use listing::{bounds_of, list_tables};
 pub use partial::{ColumnKind, LineKey, Partial, Span};

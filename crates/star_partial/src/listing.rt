@@ -10,8 +10,8 @@ use star_schema::{ColumnId, Kind, Sizes, TABLES, TableId, column_at, kind_of, wi
 use std::alloc::{AllocError, Global};
 use std::fmt::Write;
 
-// Returns the bounds of a column.
-fn bounds_of(bounds: &[Interval; 58], column: ColumnId) -> Interval
+/// Returns the bounds of a column, from those of all 58 in order.
+pub fn bounds_of(bounds: &[Interval; 58], column: ColumnId) -> Interval
     ensures { range_of result ≡ bounds_at bounds.now column }
 {
     bounds[column as usize]
