@@ -1,8 +1,7 @@
 -- Partials in another order than the parts.
-use Rattle.std.{proofs.Common.{◌≡◌, ◌∙◌, ◌++◌, ℕ, List, [], ◌∷◌, AllPairs, None, Option, Some, append_assoc, arith, inl, inr, length, map, refl, subst, sym, true, ⊎_elim}, proofs.lemmas.List.Sorted.{All-permutation, IsPermutation-append, IsPermutation-append_comm, IsPermutation-map, IsPermutation-refl, IsPermutation-sym, IsPermutation-trans, length_permutation, sum_by-IsPermutation}, proofs.lemmas.List.Elements.{All-cons, All-contains, All-from_recursion, All-head, All-tail}, specs.List.{Contains, flat_map}, specs.List.Sorted.IsPermutation, proofs.Math.Bool.or_comm, proofs.lemmas.List.Kept.AllPairs-cons, specs.Ordering.is_lt, specs.Prelude.slice_index_or}
-use Rattle.star_common.proofs.Members.{contains_cases, contains_here, contains_later, of_each}
+use Rattle.std.{proofs.{Common.{◌≡◌, ◌∙◌, ◌++◌, ℕ, List, [], ◌∷◌, AllPairs, None, Option, Some, append_assoc, arith, inl, inr, length, map, refl, true}, lemmas.List.{Sorted.{All-permutation, IsPermutation-append_comm, IsPermutation-append_left, IsPermutation-append_right, IsPermutation-cons, IsPermutation-map, IsPermutation-middle, IsPermutation-refl, IsPermutation-sym, IsPermutation-trans, length_permutation, sum_by-IsPermutation}, Elements.{All-cons, All-head, All-tail}, Kept.AllPairs-cons}, Math.Bool.or_comm}, specs.{List.{flat_map, Sorted.IsPermutation}, Ordering.is_lt, Prelude.slice_index_or}}
 use Rattle.star_interval.specs.Range.{Range}
-use Rattle.star_schema.specs.{declared.table.TableId.TheVariants.{Date, Customer, Supplier, Part, Lineorder}, declared.column.ColumnId.ColumnId, declared.table.TableId.TableId, Database.{Database, rows_in}, Groups.GroupRow, Tables.Value}
+use Rattle.star_schema.specs.{declared.{table.TableId.{TheVariants.Lineorder, TableId}, column.ColumnId.ColumnId}, Database.{Database, rows_in}, Groups.GroupRow, Tables.Value}
 use Rattle.star_plan.specs.Meaning.{Plan, Row, aggregate_of}
 use Rattle.star_program.specs.declared.outcome.Outcome.{Outcome}
 use Rattle.star_query_meaning.proofs.Reorderings.{reordered}
@@ -12,20 +11,13 @@ use Rattle.star_merge.specs.{Cells.group_of, Merged.AreOfShape, Merged.IsFull, M
 use Rattle.star_merger.specs.{Private.Outcomes.HasRoom, Private.Outcomes.IsMergedOutcome, Private.Outcomes.all_shown, Private.Outcomes.groups_of, Private.Shares.Share, Private.Shares.share_rows, Private.Shown.HasFacts, Private.Shown.IsUsable, Private.Shown.counted, Private.Shown.lookups_in, Private.Shown.rows_shown, Private.Shown.updates_in}
 
 module _ {X Y : Type 0} (f : X → List Y) where
-  flat_under : (x : X) (xs ys : List X) → IsPermutation (flat_map f xs) (flat_map f ys)
-      → IsPermutation (flat_map f (x ∷ xs)) (flat_map f (x ∷ ys))
-  flat_under x xs ys h =
-      IsPermutation-append (f x) (f x) (flat_map f xs) (flat_map f ys) (IsPermutation-refl (f x)) h
-
   flat_turned : (x y : X) (xs : List X)
       → IsPermutation (flat_map f (x ∷ y ∷ xs)) (flat_map f (y ∷ x ∷ xs))
   flat_turned x y xs =
-      subst (IsPermutation (f x ++ (f y ++ flat_map f xs)))
-      (append_assoc (f y) (f x) (flat_map f xs))
-      (subst (λ ys. IsPermutation ys ((f y ++ f x) ++ flat_map f xs))
-      (append_assoc (f x) (f y) (flat_map f xs))
-      (IsPermutation-append (f x ++ f y) (f y ++ f x) (flat_map f xs) (flat_map f xs)
-      (IsPermutation-append_comm (f x) (f y)) (IsPermutation-refl (flat_map f xs))))
+      let rest = flat_map f xs in
+      rw (← append_assoc (f x) (f y) rest, ← append_assoc (f y) (f x) rest)
+      (IsPermutation-append_left rest (f x ++ f y) (f y ++ f x)
+      (IsPermutation-append_comm (f x) (f y)))
 
   pub flat_reordered : (xs ys : List X) → IsPermutation xs ys
       → IsPermutation (flat_map f xs) (flat_map f ys)
@@ -33,7 +25,7 @@ module _ {X Y : Type 0} (f : X → List Y) where
       reordered (λ xs ys. IsPermutation (flat_map f xs) (flat_map f ys))
       (λ xs. IsPermutation-refl (flat_map f xs))
       (λ xs ys zs a b. IsPermutation-trans (flat_map f xs) (flat_map f ys) (flat_map f zs) a b)
-      flat_under flat_turned
+      (λ x xs ys h. IsPermutation-append_right (f x) (flat_map f xs) (flat_map f ys) h) flat_turned
 
 counted_reordered : (count : Option Outcome → ℕ) (xs ys : List Contents) → IsPermutation xs ys
     → counted count xs ≡ counted count ys
@@ -96,11 +88,7 @@ module _ (database : Database) (xs ys : List Row) (h : IsPermutation xs ys)
     (counts : TableId → ℕ) (ranges : ColumnId → Range)
     (has : HasFacts (with_lineorder database xs) counts ranges) where
   sizes_moved : (t : TableId) → counts t ≡ length (rows_in (with_lineorder database ys) t)
-  sizes_moved Date = has.sizes Date
-  sizes_moved Customer = has.sizes Customer
-  sizes_moved Supplier = has.sizes Supplier
-  sizes_moved Part = has.sizes Part
-  sizes_moved Lineorder = has.sizes Lineorder ∙ sym (length_permutation xs ys h)
+  sizes_moved it = grind (arith, has.sizes, length_permutation xs ys h)
 
   pub facts_moved : HasFacts (with_lineorder database ys) counts ranges
   facts_moved = record {
@@ -117,28 +105,18 @@ rows_moved xs ys h =
 
 module _ {X : Type 0} (R : X → X → Type 0) (alike : (x y : X) → R x y → R y x) where
   abbrev Keeps : List X → List X → Type 0
-  Keeps xs ys = ((x : X) → Contains ys x → Contains xs x) × (AllPairs R xs → AllPairs R ys)
+  Keeps xs ys = IsPermutation xs ys × (AllPairs R xs → AllPairs R ys)
 
   keeps_under : (x : X) (xs ys : List X) → Keeps xs ys → Keeps (x ∷ xs) (x ∷ ys)
   keeps_under x xs ys keeps = (
-    λ z c. ⊎_elim {C = Contains (x ∷ xs) z}
-        (λ same. subst (Contains (x ∷ xs)) same (contains_here x xs))
-        (λ later. contains_later x xs z (keeps.0 z later)) (contains_cases x ys z c),
-    λ h. AllPairs-cons R x ys
-        (All-from_recursion (R x) ys
-        (of_each (R x) ys (λ y c. All-contains (R x) xs y (pairs_head R x xs h) (keeps.0 y c))))
+    IsPermutation-cons x xs ys keeps.0,
+    λ h. AllPairs-cons R x ys (All-permutation (R x) xs ys keeps.0 (pairs_head R x xs h))
         (keeps.1 (pairs_tail R x xs h)),
   )
 
   keeps_turned : (x y : X) (xs : List X) → Keeps (x ∷ y ∷ xs) (y ∷ x ∷ xs)
   keeps_turned x y xs = (
-    λ z c. ⊎_elim {C = Contains (x ∷ y ∷ xs) z}
-        (λ same. contains_later x (y ∷ xs) z
-        (subst (Contains (y ∷ xs)) same (contains_here y xs)))
-        (λ later. ⊎_elim {C = Contains (x ∷ y ∷ xs) z}
-        (λ same. subst (Contains (x ∷ y ∷ xs)) same (contains_here x (y ∷ xs)))
-        (λ rest. contains_later x (y ∷ xs) z (contains_later y xs z rest))
-        (contains_cases x xs z later)) (contains_cases y (x ∷ xs) z c),
+    IsPermutation-middle (x ∷ []) y xs,
     λ h. let first = pairs_head R x (y ∷ xs) h in
         let rest = pairs_tail R x (y ∷ xs) h in
         AllPairs-cons R y (x ∷ xs)
@@ -148,9 +126,9 @@ module _ {X : Type 0} (R : X → X → Type 0) (alike : (x y : X) → R x y → 
 
   pairs_reordered : (xs ys : List X) → IsPermutation xs ys → AllPairs R xs → AllPairs R ys
   pairs_reordered xs ys h =
-      (reordered Keeps (λ xs. (λ x c. c, λ h. h))
-      (λ xs ys zs a b. (λ x c. a.0 x (b.0 x c), λ h. b.1 (a.1 h))) keeps_under keeps_turned xs ys
-      h).1
+      (reordered Keeps (λ xs. (IsPermutation-refl xs, λ h. h))
+      (λ xs ys zs a b. (IsPermutation-trans xs ys zs a.0 b.0, λ h. b.1 (a.1 h))) keeps_under
+      keeps_turned xs ys h).1
 
 disjoint_alike : (a b : Option Span) → are_disjoint a b ≡ are_disjoint b a
 disjoint_alike None None = refl

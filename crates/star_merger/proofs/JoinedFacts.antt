@@ -47,21 +47,11 @@ module _ (database : Database) (rows others : List Row) (a b sizes : TableId →
   abbrev more : Facts
   more = record { rows = b Lineorder; bounds = of_others }
 
-  pub facts_are : AreFactsOf (with_lineorder database rows) facts
-  facts_are = record { rows = h.sizes Lineorder; bounds = h.bounds }
-
-  pub more_are : AreFactsOf (with_lineorder database others) more
-  more_are = record { rows = k.sizes Lineorder; bounds = k.bounds }
-
   sizes_are : sizes Lineorder ≡ a Lineorder + b Lineorder → sizes Date ≡ a Date
       → sizes Customer ≡ a Customer → sizes Supplier ≡ a Supplier → sizes Part ≡ a Part
       → (t : TableId) → sizes t ≡ length (rows_in (with_lineorder database (rows ++ others)) t)
-  sizes_are sum date customer supplier part Date = date ∙ h.sizes Date
-  sizes_are sum date customer supplier part Customer = customer ∙ h.sizes Customer
-  sizes_are sum date customer supplier part Supplier = supplier ∙ h.sizes Supplier
-  sizes_are sum date customer supplier part Part = part ∙ h.sizes Part
-  sizes_are sum date customer supplier part Lineorder =
-      sum ∙ (λ i. h.sizes Lineorder i + k.sizes Lineorder i) ∙ sym (length-append rows others)
+  sizes_are sum date customer supplier part it =
+      grind (arith, h.sizes, k.sizes, length-append rows others)
 
   pub many_rows : ¬ (a Lineorder + b Lineorder < 2 ^ 32) → 2 ^ 32 ≤ length (rows ++ others)
   many_rows over =

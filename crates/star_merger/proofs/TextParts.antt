@@ -1,6 +1,6 @@
 -- The parts as texts: their rows, their dimensions, and all parts together.
 use Rattle.std.{proofs.Common.{◌≡◌, ◌≢◌, ◌∙◌, ◌≤◌, ℕ, Bool, true, false, List, [], ◌∷◌, ◌++◌, AllPairs, None, ap, append-nil, arith, get_or, length, map, refl, subst, sym}, proofs.lemmas.List.{get_or-map, length-map}, proofs.lemmas.List.Elements.{All-cons, All-head, All-map, All-nil, All-tail}, specs.List.All}
-use Rattle.star_schema.specs.{declared.table.TableId.TheVariants.{Date, Customer, Supplier, Part, Lineorder}, declared.column.ColumnId.ColumnId, declared.table.TableId.TableId, Bounds.{greatest, least, numbers_of}, Columns.bounds_in, Database.{Database, TableTexts, rows_in}, Loadable.{HasDistinctKeys, IsLoadable, database_of, keys_of}, Records.records_in, Schema.table_of, Tables.{rows_of, row_of}}
+use Rattle.star_schema.specs.{declared.{table.TableId.{TheVariants.Lineorder, TableId}, column.ColumnId.ColumnId}, Bounds.{greatest, least, numbers_of}, Columns.bounds_in, Database.{Database, TableTexts, rows_in}, Loadable.{HasDistinctKeys, IsLoadable, database_of, keys_of}, Records.records_in, Schema.table_of, Tables.{rows_of, row_of}}
 use Rattle.star_plan.specs.Meaning.{Row}
 use Rattle.star_partial.specs.Contents.{Contents}
 use Rattle.star_merger.specs.{Partials.contents_of, declared.partial.Partial.Partial, Merged.spans_of, Private.Checked.{AreDisjointSpans, HasDimensions}, Private.Shares.{AreShares, Share, contents_of_shares, share_rows, whole_of}, TextShares.{AreDistinct, IsTextShare, TextShare, all_contents, lineorder_parts, whole_texts}}
@@ -46,11 +46,7 @@ spans_same (share ∷ shares) =
 -- ---- the dimensions
 
 beside : (t : TableId) → t ≢ Lineorder → IsBeside t
-beside Date h = tt
-beside Customer h = tt
-beside Supplier h = tt
-beside Part h = tt
-beside Lineorder h = h refl
+beside it h = grind arith
 
 bounds_beside : (database : Database) (rows : List Row) (c : ColumnId) → table_of c ≢ Lineorder
     → bounds_in (rows_in (with_lineorder database rows)) c ≡ bounds_in (rows_in database) c

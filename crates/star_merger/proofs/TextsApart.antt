@@ -21,20 +21,6 @@ pub record AreSame {A : Type 0} (x y : A) (us vs : List ℕ) : Type 0 where
   pub first : x ≡ y
   pub rest : us ≡ vs
 
-number_cut : (b : ℕ) → IsApart b → (y z : ℤ) (us vs : List ℕ) → HasDigits y → HasDigits z
-    → signed_decimal y ++ b ∷ us ≡ signed_decimal z ++ b ∷ vs → AreSame y z us vs
-number_cut b apart y z us vs h k e =
-    let parts = split_first b (signed_decimal y) (signed_decimal z) us vs
-    (number_lacks b y h apart.digit apart.minus) (number_lacks b z k apart.digit apart.minus) e in
-    record { first = number_same y z h k parts.0; rest = parts.1 }
-
-count_cut : (b : ℕ) → IsApart b → (m n : ℕ) (us vs : List ℕ) → m < 10 ^ 64 → n < 10 ^ 64
-    → decimal m ++ b ∷ us ≡ decimal n ++ b ∷ vs → AreSame m n us vs
-count_cut b apart m n us vs h k e =
-    let parts = number_cut b apart (pos m) (pos n) us vs h k e in
-    let same : pos m ≡ pos n = parts.first in
-    record { first = cc; rest = parts.rest }
-
 at_end : IsApart 10
 at_end = record { digit = λ h. absurd (omega arith); minus = λ h. absurd (omega arith) }
 
@@ -55,15 +41,18 @@ number_before : (b : ℕ) → IsApart b → (y z : ℤ) (xs ys us vs : List ℕ)
     → (signed_decimal y ++ b ∷ xs) ++ us ≡ (signed_decimal z ++ b ∷ ys) ++ vs
     → AreSame y z (xs ++ us) (ys ++ vs)
 number_before b apart y z xs ys us vs h k e =
-    number_cut b apart y z (xs ++ us) (ys ++ vs) h k
+    let parts = split_first b (signed_decimal y) (signed_decimal z) (xs ++ us) (ys ++ vs)
+    (number_lacks b y h apart.digit apart.minus) (number_lacks b z k apart.digit apart.minus)
     (sym (append_assoc (signed_decimal y) (b ∷ xs) us) ∙ e
-    ∙ append_assoc (signed_decimal z) (b ∷ ys) vs)
+    ∙ append_assoc (signed_decimal z) (b ∷ ys) vs) in
+    record { first = number_same y z h k parts.0; rest = parts.1 }
 
 count_before : (b : ℕ) → IsApart b → (m n : ℕ) (xs ys us vs : List ℕ) → m < 10 ^ 64 → n < 10 ^ 64
     → (decimal m ++ b ∷ xs) ++ us ≡ (decimal n ++ b ∷ ys) ++ vs → AreSame m n (xs ++ us) (ys ++ vs)
 count_before b apart m n xs ys us vs h k e =
-    count_cut b apart m n (xs ++ us) (ys ++ vs) h k
-    (sym (append_assoc (decimal m) (b ∷ xs) us) ∙ e ∙ append_assoc (decimal n) (b ∷ ys) vs)
+    let parts = number_before b apart (pos m) (pos n) xs ys us vs h k e in
+    let same : pos m ≡ pos n = parts.first in
+    record { first = cc; rest = parts.rest }
 
 -- ---- the digest
 

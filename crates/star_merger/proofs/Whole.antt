@@ -98,9 +98,12 @@ module _ (database : Database) (p : Plan) (sound : IsSoundPlan p) where
   IsPlain report = IsPlanAnswer (tables_with database report.lineorder) (plain_plan p)
       report.names report.rows
 
-  shown_some : (rows : List Row) (outcome : Outcome) → IsOutcomeOver rows outcome
-      → IsShown rows (Some outcome)
-  shown_some rows outcome is = record {
+  pub shown : (rows : List Row) (run : Option Outcome) → (run ≡ None → rows ≡ [])
+      → IfSome run (IsOutcomeOver rows) → IsShown rows run
+  shown rows None none some =
+      subst (λ rows. IsShown rows None) (sym (none refl))
+      (record { plain = All-nil IsPlain; rows = refl; lookups = refl; updates = refl })
+  shown rows (Some outcome) none is = record {
     plain =
         All-cons IsPlain
         (record { lineorder = rows; names = outcome.names; rows = outcome.rows }) [] is.answer
@@ -109,19 +112,6 @@ module _ (database : Database) (p : Plan) (sound : IsSoundPlan p) where
     lookups = is.lookups;
     updates = is.updates;
   }
-
-  shown_none : IsShown [] None
-  shown_none = record {
-    plain = All-nil IsPlain;
-    rows = refl;
-    lookups = refl;
-    updates = refl;
-  }
-
-  pub shown : (rows : List Row) (run : Option Outcome) → (run ≡ None → rows ≡ [])
-      → IfSome run (IsOutcomeOver rows) → IsShown rows run
-  shown rows None none some = subst (λ rows. IsShown rows None) (sym (none refl)) shown_none
-  shown rows (Some outcome) none some = shown_some rows outcome some
 
   -- ---- what the partials of all parts show
 
