@@ -3,7 +3,7 @@
 use Rattle.std.{proofs.Common.{◌≡◌, ◌∙◌, ℕ, zero, suc, Bool, true, false, List, [], ◌∷◌, Option, Some, None, ap, arith, inl, inr, length, refl, subst, sym}, specs.Prelude.{Contains, codes, is_none, map}, specs.Fmt.digits, specs.List.AllByRecursion, specs.List.Sorted.IsStrictlySortedBy, specs.declared.cmp.Ordering.Ordering}
 use Rattle.star_common.{specs.First.first_answer, proofs.Tables.each_row}
 use Rattle.star_schema.specs.{Groups.{AreGroups, Entry, GroupRow, IsGroup, IsMasked, members, totals_of}, declared.group.Aggregate.Aggregate, declared.group.Shape.Shape, declared.group.Shape.TheVariants.{Cube, Plain, Rollup}, Database.{Database, rows_in}, Loadable.database_of, Order.value_cmp, Records.pieces, Schema.{column_of, columns_of, position_of, table_name}, Tables.Value}
-use Rattle.star_query.{specs.Symbols.spelling, specs.Private.Cut.{cut_from, reserved, reserved_words}, specs.Tree.{Name, Tree}, proofs.Told.{Says, Told, fault, holds, means, nothing, told}}
+use Rattle.star_query.{specs.Symbols.spelling, specs.Private.Cut.{cut_from, reserved, reserved_words}, specs.Tree.{Name, Tree}, proofs.TextResults.{Says, TextResult, fault, holds, means, nothing, text_result}}
 use Rattle.star_plan.{specs.declared.fault.PlanFault.PlanFault, specs.Faults.plan_fault, specs.Meaning.{Joined, aggregate_of}, specs.Names.{column_called, has_name, table_called}, specs.Naming.{function_word, has_text}, proofs.Conditions.well_named}
 use Rattle.star_program.specs.RowCells.{cell_of}
 use Rattle.star_report.specs.Report.{cell_text, line_text, report_text}
@@ -69,7 +69,7 @@ module _ (database : Database) (tree : Tree) where
       ap (λ r. r.keys) (sym is) ∙ ap (map (λ n. value_named n x)) e
   bare e (x ∷ xs) row (suc k, lt, is) = bare e xs row (k, omega (arith, lt), is)
 
-abbrev report_of : Database → Told → Option (List ℕ)
+abbrev report_of : Database → TextResult → Option (List ℕ)
 report_of database (means tree) =
     printed database tree tree.grouping.shape tree.grouping.columns (is_none (plan_fault tree))
 report_of database _ = None
@@ -88,8 +88,8 @@ none_is None e = refl
 none_is (Some f) e = absurd (cc)
 
 reports_hold : (database : Database) (query : List ℕ)
-    → HasReport database query (report_of database (told query))
-reports_hold database query = of_told (told query) (holds query)
+    → HasReport database query (report_of database (text_result query))
+reports_hold database query = of_result (text_result query) (holds query)
   where
     by_test : (tree : Tree) → Says query (means tree) → (s : Shape) (columns : List Name)
         → tree.grouping.shape ≡ s → tree.grouping.columns ≡ columns → (b : Bool)
@@ -126,10 +126,10 @@ reports_hold database query = of_told (told query) (holds query)
     by_test tree is Cube columns plain none b well = tt
     by_test tree is Rollup columns plain none b well = tt
 
-    of_told : (t : Told) → Says query t → HasReport database query (report_of database t)
-    of_told nothing is = tt
-    of_told (fault f) is = tt
-    of_told (means tree) is =
+    of_result : (t : TextResult) → Says query t → HasReport database query (report_of database t)
+    of_result nothing is = tt
+    of_result (fault f) is = tt
+    of_result (means tree) is =
         by_test tree is tree.grouping.shape tree.grouping.columns refl refl
         (is_none (plan_fault tree)) refl
 
@@ -158,8 +158,8 @@ unfolding cut_from reserved reserved_words spelling column_of columns_of positio
     table_name
     column_called table_called first_answer has_name has_text function_word digits report_text
     line_text cell_text
-reports = each_row (HasReport five) (λ query. report_of five (told query)) (reports_hold five) rows
-    refl
+reports = each_row (HasReport five) (λ query. report_of five (text_result query))
+    (reports_hold five) rows refl
 
 -- ---- the same from bytes to bytes: the sample's five files, lineorder's in two parts
 

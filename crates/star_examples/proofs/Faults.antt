@@ -2,7 +2,7 @@
 use Rattle.std.{proofs.Common.{◌≡◌, ◌<◌, ℕ, zero, suc, List, [], ◌∷◌, ◌++◌, Option, Some, None, arith, length, refl}, specs.Prelude.{codes, replicate}, specs.Fmt.digits, specs.List.AllByRecursion}
 use Rattle.star_common.{specs.First.first_answer, proofs.Tables.each_row}
 use Rattle.star_schema.specs.Schema.{column_of, table_name}
-use Rattle.star_query.{specs.declared.fault.QueryFault.TheVariants.{TooLong, BadCharacter, BadNumber, Unexpected, TooDeep, TooMany}, specs.declared.fault.QueryFault.QueryFault, specs.Private.Cut.{cut_from, reserved, reserved_words}, specs.Derives.{IsFirstQueryFault, Means}, specs.Symbols.spelling, specs.Tree.Tree, proofs.Told.{Says, Told, fault, holds, means, nothing, told}}
+use Rattle.star_query.{specs.declared.fault.QueryFault.TheVariants.{TooLong, BadCharacter, BadNumber, Unexpected, TooDeep, TooMany}, specs.declared.fault.QueryFault.QueryFault, specs.Private.Cut.{cut_from, reserved, reserved_words}, specs.Derives.{IsFirstQueryFault, Means}, specs.Symbols.spelling, specs.Tree.Tree, proofs.TextResults.{Says, TextResult, fault, holds, means, nothing, text_result}}
 use Rattle.star_plan.specs.{declared.fault.PlanFault.TheVariants.{UnknownName, TableNotNamed, JoinTwice, NotAKeyPair, WrongKind, NotGrouped, UnknownOrderKey, DuplicateAlias}, declared.fault.PlanFault.PlanFault, Faults.plan_fault, Names.{column_called, has_name, table_called}, Naming.{function_word, has_text}}
 
 -- ---- what is computed of a text holds of it
@@ -15,12 +15,12 @@ HasFault bytes (Some f) = IsFirstQueryFault bytes f
 abbrev HasNames : List ℕ → Option PlanFault → Type 0
 HasNames bytes f = (tree : Tree) × Means bytes tree × (plan_fault tree ≡ f)
 
-abbrev fault_in : Told → Option (Option QueryFault)
+abbrev fault_in : TextResult → Option (Option QueryFault)
 fault_in nothing = None
 fault_in (means tree) = Some None
 fault_in (fault f) = Some (Some f)
 
-abbrev names_in : Told → Option (Option PlanFault)
+abbrev names_in : TextResult → Option (Option PlanFault)
 names_in (means tree) = Some (plan_fault tree)
 names_in _ = None
 
@@ -28,7 +28,7 @@ abbrev IfTold : {F : Type 0} → (List ℕ → F → Type 0) → List ℕ → Op
 IfTold Has bytes None = Unit {0}
 IfTold Has bytes (Some f) = Has bytes f
 
-holds_of : (bytes : List ℕ) (t : Told) → Says bytes t
+holds_of : (bytes : List ℕ) (t : TextResult) → Says bytes t
     → IfTold HasFault bytes (fault_in t) × IfTold HasNames bytes (names_in t)
 holds_of bytes nothing is = (tt, tt)
 holds_of bytes (means tree) is = ((tree, is), (tree, is, refl))
@@ -148,8 +148,8 @@ first_faults : AllByRecursion (λ row. IfTold HasFault row.0 row.1) faults
 unfolding cut_from reserved reserved_words spelling column_of table_name column_called table_called
     first_answer has_name has_text function_word digits
 first_faults = (
-  each_row (IfTold HasFault) (λ text. fault_in (told text))
-      (λ text. (holds_of text (told text) (holds text)).0) faults refl,
-  each_row (IfTold HasNames) (λ text. names_in (told text))
-      (λ text. (holds_of text (told text) (holds text)).1) names refl,
+  each_row (IfTold HasFault) (λ text. fault_in (text_result text))
+      (λ text. (holds_of text (text_result text) (holds text)).0) faults refl,
+  each_row (IfTold HasNames) (λ text. names_in (text_result text))
+      (λ text. (holds_of text (text_result text) (holds text)).1) names refl,
 )

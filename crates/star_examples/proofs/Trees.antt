@@ -3,7 +3,7 @@
 use Rattle.std.{proofs.Common.{◌≡◌, ◌≤◌, ◌*◌, ℕ, true, false, List, [], ◌∷◌, Option, Some, None, Ok, length, refl}, specs.Prelude.{codes, neg_ℤ, pos, sum_by}, specs.List.{AllByRecursion, list_all}}
 use Rattle.star_common.proofs.Tables.{Gives, each_row}
 use Rattle.star_schema.specs.{declared.group.Shape.TheVariants.Plain, declared.group.Shape.TheVariants.Cube, declared.group.Shape.TheVariants.Rollup, declared.group.Direction.TheVariants.Ascending, declared.group.Direction.TheVariants.Descending, Tables.Number, Tables.Text}
-use Rattle.star_query.{specs.declared.token.Relation.TheVariants.{Equal, Unequal, Less, AtMost, Greater, AtLeast}, specs.Private.Phrases.{ascending, cube, descending, grouped, groups_tree, hiding, key_tree, one, rollup, ungrouped, unmarked}, specs.Spelled.{IsSpelledQuery, condition_is_spelled, expression_is_spelled, has_few_digits, is_name, is_printable_text, item_is_spelled, where_is_spelled}, specs.Tree.{Condition, Expression, Grouping, Item, Measure, Name, SortKey, Test, Tree, add, aggregate, and, column, constant, count, fold, mul, not, or, plain, sub}, specs.declared.token.Fold.TheVariants.{Sum, Min, Max}, specs.Private.Cut.{cut_from, cut_of, reserved, reserved_words}, specs.Limits.{IsQueryWithinLimits, aggregates_in, item_operands, where_comparisons}, specs.Maxima.most_bytes, specs.Meant.IsMeant, proofs.Told.{Says, Told, holds, means, told}}
+use Rattle.star_query.{specs.declared.token.Relation.TheVariants.{Equal, Unequal, Less, AtMost, Greater, AtLeast}, specs.Private.Phrases.{ascending, cube, descending, grouped, groups_tree, hiding, key_tree, one, rollup, ungrouped, unmarked}, specs.Spelled.{IsSpelledQuery, condition_is_spelled, expression_is_spelled, has_few_digits, is_name, is_printable_text, item_is_spelled, where_is_spelled}, specs.Tree.{Condition, Expression, Grouping, Item, Measure, Name, SortKey, Test, Tree, add, aggregate, and, column, constant, count, fold, mul, not, or, plain, sub}, specs.declared.token.Fold.TheVariants.{Sum, Min, Max}, specs.Private.Cut.{cut_from, cut_of, reserved, reserved_words}, specs.Limits.{IsQueryWithinLimits, aggregates_in, item_operands, where_comparisons}, specs.Maxima.most_bytes, specs.Meant.IsMeant, proofs.TextResults.{Says, TextResult, holds, means, text_result}}
 use Rattle.star_query.specs.Symbols.{Placed, Symbol, number as number_symbol, relation, spelling}
 use Rattle.star_examples.proofs.QueryTests.{pair, compare, between}
 
@@ -85,7 +85,7 @@ cubed = record {
   columns = called (codes "c") 49 ∷ called (codes "d") 52 ∷ called (codes "e") 55 ∷ [];
 }
 
-abbrev rows : List (List ℕ × Told)
+abbrev rows : List (List ℕ × TextResult)
 rows = (
   codes "select a, sum(b-c+d*(e-2)*-3), min(f*g-h), max(-1) as m, count(*) as n from t, u",
   means sums,
@@ -112,7 +112,7 @@ rows = (
 
 meant : AllByRecursion (λ row. Says row.0 row.1) rows
 unfolding cut_from reserved reserved_words spelling
-meant = each_row Says told holds rows refl
+meant = each_row Says text_result holds rows refl
 
 some_text_means_it : IsMeant ordered
 some_text_means_it = (_, meant.1.0)

@@ -89,12 +89,12 @@ module _ {X : Type 0} (v : X → Item) (items : List X) (i : ℕ) (x : X) (names
 
 -- ---- an aggregate's name beside those before it
 
-pub alias_told : (groups : List Name) (aggregates : List Named) (index : ℕ) (a : Aggregate)
+pub alias_reported : (groups : List Name) (aggregates : List Named) (index : ℕ) (a : Aggregate)
     (own : Named) (name : List ℕ) (taken : Bool) (at : ℕ) → index < length aggregates
     → get_or (names_view aggregates) index [] ≡ name_of_aggregate (index + 1) a
     → name ≡ (get_or aggregates index own).name.items
     → taken ≡ (has_text (names_view (take index aggregates)) name || has_name groups name)
     → at ≡ name_offset a → (if taken then Some (DuplicateAlias at) else None)
     ≡ alias_fault groups (take index (names_view aggregates)) a
-alias_told groups aggregates index a own name taken at within named is tested placed =
+alias_reported groups aggregates index a own name taken at within named is tested placed =
     grind (arith, take-map, length-take-le, length-map, get_or-map)

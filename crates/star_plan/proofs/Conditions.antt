@@ -3,7 +3,7 @@ use Rattle.std.{proofs.Common.{◌≡◌, ◌∙◌, sym, ap, subst, ℕ, ◌+�
 use Rattle.star_common.{proofs.Firsts.or_none, specs.First.first_answer}
 use Rattle.star_schema.specs.{declared.table.TableId.TheVariants.Lineorder, declared.column.ColumnId.ColumnId, Schema.table_name, Schema.table_of}
 use Rattle.star_query.specs.Tree.{Item, Name, Tree, aggregate, plain}
-use Rattle.star_plan.{specs.Faults.{aggregates_fault, fact_fault, group_fault, item_fault, item_fault_after, key_fault, use_kind_fault, missing_fault, pair_fault, plan_fault, scope_fault, from_table_fault}, specs.WellNamed.{IsThere, IsWellNamed, is_grouped, is_in_from, is_reached, same_name, same_text}, specs.declared.fault.PlanFault.PlanFault, specs.Joins.where_pairs, specs.First.{first_after, first_beside}, specs.Names.{has_name, table_at}, specs.Uses.uses_of, specs.Naming.{name_of_aggregate, aggregate_names, has_text, names_from}, specs.Private.Stages.order_fault, proofs.Apart.{AreApart, IsFresh, apart_first, apart_from, apart_more, apart_rest, apart_to, each, each_after, each_two, found_known, found_none, none_or, some_from, some_to}, proofs.Known.{named_of, scope_known}, proofs.KeptJoins.{are_apart, pair_none, same_join}, proofs.Whole.parts}
+use Rattle.star_plan.{specs.Faults.{aggregates_fault, fact_fault, group_fault, item_fault, item_fault_after, key_fault, use_kind_fault, missing_fault, pair_fault, plan_fault, scope_fault, from_table_fault}, specs.WellNamed.{IsThere, IsWellNamed, is_grouped, is_in_from, is_reached, same_name, same_text}, specs.declared.fault.PlanFault.PlanFault, specs.Joins.where_pairs, specs.First.{first_after, first_beside}, specs.Names.{has_name, table_at}, specs.Uses.uses_of, specs.Naming.{name_of_aggregate, aggregate_names, has_text, names_from}, specs.Private.Stages.order_fault, proofs.Apart.{AreApart, IsFresh, apart_first, apart_from, apart_more, apart_rest, apart_to, each, each_after, each_two, found_known, found_none, none_or, some_from, some_to}, proofs.Known.{named_of, scope_known}, proofs.PreservedJoins.{are_apart, pair_none, same_join}, proofs.Whole.parts}
 
 none_from : {A : Type 0} (b : Bool) (x : A) → b ≡ true → (if b then None else Some x) ≡ None
 none_from true x e = refl

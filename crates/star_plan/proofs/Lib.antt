@@ -7,10 +7,10 @@ pub mod Known
 pub mod Options
 pub mod Related
 pub mod Whole
-pub mod KeptJoins
-pub mod KeptCounts
-pub mod KeptSpelling
-pub mod Kept
+pub mod PreservedJoins
+pub mod PreservedCounts
+pub mod PreservedSpelling
+pub mod Preserved
 pub mod Conditions
 pub mod PlannedQueries
 mod Worked

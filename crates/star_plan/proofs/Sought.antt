@@ -55,12 +55,12 @@ order_sought groups names text =
 
 -- ---- the fault of a name that isn't found
 
-pub found_told : {A F : Type 0} (o : Option A) (b : Bool) (x : A) (fault : F) → is_some o ≡ b
+pub found_reported : {A F : Type 0} (o : Option A) (b : Bool) (x : A) (fault : F) → is_some o ≡ b
     → Some x ≡ o → None ≡ (if b then None else Some fault)
-found_told o true x fault e is = refl
-found_told o false x fault e is = absurd (let wrong = rw (← is) at e in cc)
+found_reported o true x fault e is = refl
+found_reported o false x fault e is = absurd (let wrong = rw (← is) at e in cc)
 
-pub missing_told : {A F : Type 0} (o : Option A) (b : Bool) (fault : F) → is_some o ≡ b → None ≡ o
-    → Some fault ≡ (if b then None else Some fault)
-missing_told o true fault e is = absurd (let wrong = rw (← is) at e in cc)
-missing_told o false fault e is = refl
+pub missing_reported : {A F : Type 0} (o : Option A) (b : Bool) (fault : F) → is_some o ≡ b
+    → None ≡ o → Some fault ≡ (if b then None else Some fault)
+missing_reported o true fault e is = absurd (let wrong = rw (← is) at e in cc)
+missing_reported o false fault e is = refl

@@ -3,7 +3,7 @@ use Rattle.std.{proofs.Common.{◌≡◌, true, List, [], ◌++◌, Some, None},
 use Rattle.star_common.{proofs.Firsts.or_none, specs.First.first_answer}
 use Rattle.star_schema.specs.{declared.column.ColumnId.ColumnId, declared.group.GroupColumn.GroupColumn, Schema.table_of}
 use Rattle.star_query.specs.Tree.{Tree, Measure}
-use Rattle.star_plan.{specs.First.first_beside, specs.Meaning.RowCondition, specs.Names.{column_at, table_at}, specs.Uses.{uses_of, where_uses}, specs.Joins.{joins_of, where_pairs}, specs.Naming.aggregate_names, specs.Resolved.{items_from, option_all, where_conjuncts}, specs.Sound.{are_distinct, condition_is_sound, in_scope, measure_is_sound}, specs.Private.Stages.{groups_uses, items_uses, from_fault, grouping_fault, join_fault, naming_fault, order_fault, resolved_measures, select_fault}, specs.Faults.{aggregates_fault, fact_fault, group_fault, item_fault, key_fault, use_kind_fault, missing_fault, pair_fault, plan_fault, scope_fault, from_table_fault}, specs.WellNamed.{IsThere, is_grouped, is_reached}, proofs.Apart.{apart_to, each_after, each_two}, proofs.KeptJoins.{distinct, pair_known, same_join}, proofs.Known.{AreGood, Reaches, each_left, each_none, each_right, groups_known, item_grouped, items_known, measures_known, reached_each, reaches, where_known}}
+use Rattle.star_plan.{specs.First.first_beside, specs.Meaning.RowCondition, specs.Names.{column_at, table_at}, specs.Uses.{uses_of, where_uses}, specs.Joins.{joins_of, where_pairs}, specs.Naming.aggregate_names, specs.Resolved.{items_from, option_all, where_conjuncts}, specs.Sound.{are_distinct, condition_is_sound, in_scope, measure_is_sound}, specs.Private.Stages.{groups_uses, items_uses, from_fault, grouping_fault, join_fault, naming_fault, order_fault, resolved_measures, select_fault}, specs.Faults.{aggregates_fault, fact_fault, group_fault, item_fault, key_fault, use_kind_fault, missing_fault, pair_fault, plan_fault, scope_fault, from_table_fault}, specs.WellNamed.{IsThere, is_grouped, is_reached}, proofs.Apart.{apart_to, each_after, each_two}, proofs.PreservedJoins.{distinct, pair_known, same_join}, proofs.Known.{AreGood, Reaches, each_left, each_none, each_right, groups_known, item_grouped, items_known, measures_known, reached_each, reaches, where_known}}
 
 -- what it says that no name of a table or a column is at fault
 pub record Named (t : Tree) : Type 0 where

@@ -3,7 +3,7 @@
 ghost use Rattle.std.specs.{Prelude.{◌≡◌, ◌<◌, ◌≤◌, IfSome, length, map, nat_eq}, Cmp.Lexicographic.pointwise, List.position, Option.option_or, Result.result_err};
 ghost use Rattle.star_common.specs.First.{first_answer};
 ghost use Rattle.star_query.specs.{Maxima.most_columns, Maxima.most_items, Views.name_view, Views.sort_key_view};
-ghost use Rattle.star_plan.specs.{Faults.key_fault, Resolved.option_all, Views.names_view, Private.Answers.Resolves, Private.Answers.Tells};
+ghost use Rattle.star_plan.specs.{Faults.key_fault, Resolved.option_all, Views.names_view, Private.Answers.Resolves, Private.Answers.Reports};
 ghost use Rattle.star_plan.specs.Naming as naming;
 
 use crate::fault::PlanFault;
@@ -71,7 +71,7 @@ fn sort_key(
 ) -> Result<SortKey, PlanFault>
     requires groups { length groups.now ≤ most_columns }
     requires aggregates { length aggregates.now ≤ most_items }
-    ensures told { result_err result ≡ key_fault (map name_view groups.now)
+    ensures reported { result_err result ≡ key_fault (map name_view groups.now)
         (names_view aggregates.now) (sort_key_view key.now) }
     ensures sorted { Resolves (λ sort. sort) (naming.resolved_key (map name_view groups.now)
         (names_view aggregates.now) (sort_key_view key.now)) result }
@@ -96,7 +96,7 @@ pub(crate) fn sort_keys(
 ) -> Result<Vec<SortKey>, PlanFault>
     requires groups { length groups.now ≤ most_columns }
     requires aggregates { length aggregates.now ≤ most_items }
-    ensures told { Tells (first_answer (key_fault (map name_view groups.now)
+    ensures reported { Reports (first_answer (key_fault (map name_view groups.now)
         (names_view aggregates.now)) (map sort_key_view keys.now)) result }
     ensures sorted { Resolves (λ sorts. sorts.items)
         (option_all (naming.resolved_key (map name_view groups.now)

@@ -3,7 +3,7 @@
 ghost use Rattle.std.specs.Prelude.{◌≡◌, ◌≤◌, Some, IfErr, IfOk, length, map};
 ghost use Rattle.star_common.specs.Memory.{UnlessMemory};
 ghost use Rattle.star_query.specs.{Maxima.most_columns, Maxima.most_items, Views.name_view, Views.tree_view};
-ghost use Rattle.star_plan.specs.{declared.fault.PlanFault.TheVariants.OutOfMemory, Private.Answers.{Resolves, Tells}, Private.Found.{pairs_view, uses_view}, Faults.plan_fault, Private.Stages.{grouping_fault, naming_fault}, Joins.where_pairs, Naming.{aggregate_names, resolved_key}, Uses.uses_of, WellNamed.IsWellNamed, Resolved.{IsResolved, items_from, option_all}, Views.{names_view, plan_view}};
+ghost use Rattle.star_plan.specs.{declared.fault.PlanFault.TheVariants.OutOfMemory, Private.Answers.{Resolves, Reports}, Private.Found.{pairs_view, uses_view}, Faults.plan_fault, Private.Stages.{grouping_fault, naming_fault}, Joins.where_pairs, Naming.{aggregate_names, resolved_key}, Uses.uses_of, WellNamed.IsWellNamed, Resolved.{IsResolved, items_from, option_all}, Views.{names_view, plan_view}};
 ghost use Rattle.star_plan.specs.Joins as spec;
 
 use crate::fault::PlanFault;
@@ -20,7 +20,7 @@ use star_schema::{GroupColumn, SortKey};
 use std::alloc::Global;
 
 fn check_naming(tables: &[Name], uses: &[Use], pairs: &[Pair]) -> Result<(), PlanFault>
-    ensures { Tells (naming_fault (map name_view tables.now) (uses_view uses.now)
+    ensures { Reports (naming_fault (map name_view tables.now) (uses_view uses.now)
         (pairs_view pairs.now)) result }
 {
     check_from(tables)?;
@@ -31,7 +31,7 @@ fn check_naming(tables: &[Name], uses: &[Use], pairs: &[Pair]) -> Result<(), Pla
 
 // The joins of a query, if nothing is wrong with its names of tables and columns.
 fn check_names(alloc: Global, tree: &Tree) -> Result<Vec<Join>, PlanFault>
-    ensures told { Tells (naming_fault (tree_view tree.now).tables (uses_of (tree_view tree.now))
+    ensures reported { Reports (naming_fault (tree_view tree.now).tables (uses_of (tree_view tree.now))
         (where_pairs (tree_view tree.now).condition)) result }
     ensures joins { IfOk result (λ joins. joins.items
         ≡ spec.joins_of (where_pairs (tree_view tree.now).condition)) }
@@ -55,7 +55,7 @@ fn show(alloc: Global, tree: &Tree, aggregates: &[Aggregate]) -> Result<Shown, P
     requires groups { length tree.now.grouping.columns.items ≤ most_columns }
     requires few { length aggregates.now ≤ length tree.now.items.items }
     requires named { names_view aggregates.now ≡ aggregate_names (tree_view tree.now).items }
-    ensures told { Tells (grouping_fault (tree_view tree.now).grouping.columns
+    ensures reported { Reports (grouping_fault (tree_view tree.now).grouping.columns
         (tree_view tree.now).items (tree_view tree.now).keys) result }
     ensures items { Resolves (λ shown. shown.items.items)
         (items_from (tree_view tree.now).grouping.columns 0 (tree_view tree.now).items) result }
@@ -74,7 +74,7 @@ fn show(alloc: Global, tree: &Tree, aggregates: &[Aggregate]) -> Result<Shown, P
 fn resolve(alloc: Global, tree: &Tree) -> Result<PlanTree, PlanFault>
     requires items { length tree.now.items.items ≤ most_items }
     requires groups { length tree.now.grouping.columns.items ≤ most_columns }
-    ensures told { Tells (plan_fault (tree_view tree.now)) result }
+    ensures reported { Reports (plan_fault (tree_view tree.now)) result }
     ensures resolved { IfOk result (λ plan. IsResolved (tree_view tree.now) (plan_view plan)) }
 {
     let joins = check_names(alloc, tree)?;

@@ -2,7 +2,7 @@
 
 ghost use Rattle.std.specs.{Prelude.{◌≡◌, ◌+◌, ◌<◌, ◌≤◌, ◌||◌, [], get_or, length, map, nat_eq, take}, List.list_any, Cmp.Lexicographic.pointwise, Result.result_err};
 ghost use Rattle.star_query.specs.{Limits.aggregates_in, Maxima.most_columns, Maxima.most_items, Views.aggregate_view, Views.item_view, Views.name_view};
-ghost use Rattle.star_plan.specs.{First.first_beside, Names.has_name, Resolved.items_from, Views.names_view, Private.Answers.IsNamedAt, Private.Answers.Resolves, Private.Answers.Tells};
+ghost use Rattle.star_plan.specs.{First.first_beside, Names.has_name, Resolved.items_from, Views.names_view, Private.Answers.IsNamedAt, Private.Answers.Resolves, Private.Answers.Reports};
 ghost use Rattle.star_plan.specs.Naming as spec;
 ghost use Rattle.star_plan.specs.Faults as faults;
 ghost use Rattle.star_plan.specs.Private.Stages as stages;
@@ -135,7 +135,7 @@ fn show_item(
 ) -> Result<GroupColumn, PlanFault>
     requires groups { length groups.now ≤ most_columns }
     requires named { IsNamedAt (names_view aggregates.now) before (item_view item.now) }
-    ensures told { result_err result ≡ faults.item_fault_after (map name_view groups.now)
+    ensures reported { result_err result ≡ faults.item_fault_after (map name_view groups.now)
         (take before (names_view aggregates.now)) (item_view item.now) }
     ensures shown { Resolves (λ column. column) (stages.item_column (map name_view groups.now)
         before (item_view item.now)) result }
@@ -172,7 +172,7 @@ fn show_items(
     requires groups { length groups.now ≤ most_columns }
     requires few { length items.now ≤ most_items }
     requires named { names_view aggregates.now ≡ spec.aggregate_names (map item_view items.now) }
-    ensures told { Tells (first_beside (faults.item_fault (map name_view groups.now))
+    ensures reported { Reports (first_beside (faults.item_fault (map name_view groups.now))
         (map item_view items.now)) result }
     ensures shown { Resolves (λ columns. columns.items)
         (items_from (map name_view groups.now) 0 (map item_view items.now)) result }
@@ -196,7 +196,7 @@ pub(crate) fn select(
     requires groups { length groups.now ≤ most_columns }
     requires few { length items.now ≤ most_items }
     requires named { names_view aggregates.now ≡ spec.aggregate_names (map item_view items.now) }
-    ensures told { Tells (stages.select_fault (map name_view groups.now) (map item_view items.now))
+    ensures reported { Reports (stages.select_fault (map name_view groups.now) (map item_view items.now))
         result }
     ensures shown { Resolves (λ columns. columns.items)
         (items_from (map name_view groups.now) 0 (map item_view items.now)) result }

@@ -207,31 +207,31 @@ stop_front offset _ _ (stray b bs no_blank no_word no_quote no_sign) =
 abbrev Cut : (offset : ℕ) → List ℕ → Result (List Placed) QueryFault → Type 0
 Cut offset bytes (Ok tokens) = AreTokens (offset + length bytes) [] offset bytes tokens
 Cut offset bytes (Err fault) =
-    (tokens : List Placed) × (end : ℕ) × (left : List ℕ) × AreTokens end left offset bytes tokens
-    × Stops end left fault
+    (tokens : List Placed) × (end : ℕ) × (rest : List ℕ) × AreTokens end rest offset bytes tokens
+    × Stops end rest fault
 
 behind_blank : (offset b : ℕ) (bs : List ℕ) (o : Result (List Placed) QueryFault)
     → is_blank b ≡ true → Cut (offset + 1) bs o → Cut offset (b ∷ bs) o
-behind_blank offset b bs (Ok tokens) e rest =
+behind_blank offset b bs (Ok tokens) e are =
     let same : offset + 1 + length bs ≡ offset + length (b ∷ bs) = omega arith in
     white_space offset b bs tokens e
-    (subst (λ end. AreTokens end [] (offset + 1) bs tokens) same rest)
-behind_blank offset b bs (Err fault) e (tokens, end, left, are, stops) =
-    (tokens, end, left, white_space offset b bs tokens e are, stops)
+    (subst (λ end. AreTokens end [] (offset + 1) bs tokens) same are)
+behind_blank offset b bs (Err fault) e (tokens, end, rest, are, stops) =
+    (tokens, end, rest, white_space offset b bs tokens e are, stops)
 
 behind_token : (offset : ℕ) (word bytes : List ℕ) (x : Symbol) (o : Result (List Placed) QueryFault)
     → IsToken offset word x → is_whole x bytes ≡ true
     → Cut (offset + length word) bytes o
     → Cut offset (word ++ bytes) (put_in_front (record { symbol = x; offset = offset }) o)
-behind_token offset word bytes x (Ok tokens) is over rest =
+behind_token offset word bytes x (Ok tokens) is over are =
     let same : offset + length word + length bytes ≡ offset + length (word ++ bytes) =
     omega (arith, length-append word bytes) in
     a_token offset word bytes x tokens is over
-    (subst (λ end. AreTokens end [] (offset + length word) bytes tokens) same rest)
-behind_token offset word bytes x (Err fault) is over (tokens, end, left, are, stops) = (
+    (subst (λ end. AreTokens end [] (offset + length word) bytes tokens) same are)
+behind_token offset word bytes x (Err fault) is over (tokens, end, rest, are, stops) = (
   record { symbol = x; offset = offset } ∷ tokens,
   end,
-  left,
+  rest,
   a_token offset word bytes x tokens is over are,
   stops,
 )
@@ -293,18 +293,18 @@ one_token t ts (Ok us) = refl
 one_token t ts (Err e) = refl
 
 -- the tokens that the bytes have are those that are cut
-tokens_cut : (end : ℕ) (left : List ℕ) (offset : ℕ) (bytes : List ℕ) (tokens : List Placed)
-    → AreTokens end left offset bytes tokens
-    → cut_from offset 0 bytes ≡ with_tokens tokens (cut_from end 0 left)
-tokens_cut end left _ _ _ no_more = no_tokens (cut_from end 0 left)
-tokens_cut end left _ _ _ (white_space offset b bytes tokens e rest) =
+tokens_cut : (end : ℕ) (rest : List ℕ) (offset : ℕ) (bytes : List ℕ) (tokens : List Placed)
+    → AreTokens end rest offset bytes tokens
+    → cut_from offset 0 bytes ≡ with_tokens tokens (cut_from end 0 rest)
+tokens_cut end rest _ _ _ no_more = no_tokens (cut_from end 0 rest)
+tokens_cut end rest _ _ _ (white_space offset b bytes tokens e are) =
     cut_blank offset (b ∷ bytes) (if_then (is_blank b) _ _ e)
-    ∙ tokens_cut end left (offset + 1) bytes tokens rest
-tokens_cut end left _ _ _ (a_token offset word bytes x tokens is over rest) =
+    ∙ tokens_cut end rest (offset + 1) bytes tokens are
+tokens_cut end rest _ _ _ (a_token offset word bytes x tokens is over are) =
     let first : Placed = record { symbol = x; offset = offset } in
     cut_word offset word bytes x is (token_front offset word bytes x is over)
-    ∙ ap (put_in_front first) (tokens_cut end left (offset + length word) bytes tokens rest)
-    ∙ one_token first tokens (cut_from end 0 left)
+    ∙ ap (put_in_front first) (tokens_cut end rest (offset + length word) bytes tokens are)
+    ∙ one_token first tokens (cut_from end 0 rest)
 
 -- ---- the laws
 

@@ -14,36 +14,36 @@ pub takes : (old new : Spot) (x : Symbol) (ps : List Part) (d : ℕ) (from next 
 takes old new x ps d from next t deep e = grind (arith, not_below)
 
 -- where no step goes on, and no query ends
-pub stuck : (old : Spot) (from : ParserState) → (old.left ≡ [] → query_at_end from ≡ None)
-    → ((x : Symbol) → head_of old.left ≡ Some x → next_step from x ≡ None)
-    → verdict old from ≡ Bad Unexpected old.left
-stuck old from ends_not steps_not = by_left old.left ends_not steps_not
+pub stuck : (old : Spot) (from : ParserState) → (old.rest ≡ [] → query_at_end from ≡ None)
+    → ((x : Symbol) → head_of old.rest ≡ Some x → next_step from x ≡ None)
+    → verdict old from ≡ Bad Unexpected old.rest
+stuck old from ends_not steps_not = by_rest old.rest ends_not steps_not
   where
-    by_left : (left : List Symbol) → (left ≡ [] → query_at_end from ≡ None)
-        → ((x : Symbol) → head_of left ≡ Some x → next_step from x ≡ None)
-        → run left from old.counts ≡ Bad Unexpected left
-    by_left [] e f = ap ends (e refl)
-    by_left (x ∷ xs) e f = ap (λ o. verdict_after o old.counts (x ∷ xs) (run xs)) (f x refl)
+    by_rest : (rest : List Symbol) → (rest ≡ [] → query_at_end from ≡ None)
+        → ((x : Symbol) → head_of rest ≡ Some x → next_step from x ≡ None)
+        → run rest from old.counts ≡ Bad Unexpected rest
+    by_rest [] e f = ap ends (e refl)
+    by_rest (x ∷ xs) e f = ap (λ o. verdict_after o old.counts (x ∷ xs) (run xs)) (f x refl)
 
-head_is : (left : List Symbol) (x : Symbol) → head_of left ≡ Some x
-    → (rest : List Symbol) × (left ≡ x ∷ rest)
+head_is : (xs : List Symbol) (x : Symbol) → head_of xs ≡ Some x
+    → (rest : List Symbol) × (xs ≡ x ∷ rest)
 head_is [] x e = cc
 head_is (y ∷ ys) x e = (ys, (let same : y ≡ x = cc in ap (λ z. z ∷ ys) same))
 
 -- too many at the next symbol
 pub too_many : (old : Spot) (ps : List Part) (d : ℕ) (from : ParserState)
-    → IsBeyond ps old.counts old.left → d ≤ 32
-    → ((x : Symbol) → head_of old.left ≡ Some x
+    → IsBeyond ps old.counts old.rest → d ≤ 32
+    → ((x : Symbol) → head_of old.rest ≡ Some x
     → (next : ParserState) × (next_step from x ≡ to next (first ps d x)))
-    → verdict old from ≡ Bad TooMany old.left
-too_many old ps d from beyond deep goes = by_left old.left beyond goes
+    → verdict old from ≡ Bad TooMany old.rest
+too_many old ps d from beyond deep goes = by_rest old.rest beyond goes
   where
-    by_left : (left : List Symbol) → IsBeyond ps old.counts left
-        → ((x : Symbol) → head_of left ≡ Some x
+    by_rest : (rest : List Symbol) → IsBeyond ps old.counts rest
+        → ((x : Symbol) → head_of rest ≡ Some x
         → (next : ParserState) × (next_step from x ≡ to next (first ps d x)))
-        → run left from old.counts ≡ Bad TooMany left
-    by_left [] b f = absurd b
-    by_left (x ∷ xs) b f =
+        → run rest from old.counts ≡ Bad TooMany rest
+    by_rest [] b f = absurd b
+    by_rest (x ∷ xs) b f =
         let e = f x refl in
         let shallow : nat_lt 32 d ≡ false = not_below 32 d deep in
         let now : checked old.counts (first ps d x) (x ∷ xs) (run xs e.0) ≡ Bad TooMany (x ∷ xs) =
@@ -51,39 +51,39 @@ too_many old ps d from beyond deep goes = by_left old.left beyond goes
         ap (λ o. verdict_after o old.counts (x ∷ xs) (run xs)) e.1 ∙ now
 
 -- an end that is reached later
-pub bad_here : (f : Fault) (old new : Spot) (v : Verdict) → new.left ≡ old.left → v ≡ Bad f old.left
+pub bad_here : (f : Fault) (old new : Spot) (v : Verdict) → new.rest ≡ old.rest → v ≡ Bad f old.rest
     → EndsBad (errors.Fault f) new v
 bad_here f old new v same b = b ∙ ap (Bad f) (sym same)
 
-pub head_no_name : (left : List Symbol) (x : Symbol) → head_of left ≡ Some x → NoName left
+pub head_no_name : (rest : List Symbol) (x : Symbol) → head_of rest ≡ Some x → NoName rest
     → NoName (x ∷ [])
-head_no_name left x e none = grind (arith, head_is)
+head_no_name rest x e none = grind (arith, head_is)
 
-pub head_no_number : (left : List Symbol) (x : Symbol) → head_of left ≡ Some x → NoNumber left
+pub head_no_number : (rest : List Symbol) (x : Symbol) → head_of rest ≡ Some x → NoNumber rest
     → NoNumber (x ∷ [])
-head_no_number left x e none = grind (arith, head_is)
+head_no_number rest x e none = grind (arith, head_is)
 
 -- a token of a kind that can't be read
 bad_token : {A : Type 0} (symbol : A → Symbol) (NoMemory : Type 0) (Is IsNo : List Symbol → Type 0)
     (ps : List Part) (d : ℕ) (from : ParserState) (old new : Spot) (e : ParseError) → d ≤ 32
     → ((x : Symbol) (rest : List Symbol) → Is (x ∷ rest)
     → (next : ParserState) × (next_step from x ≡ to next (first ps d x)))
-    → (IsNo old.left → verdict old from ≡ Bad Unexpected old.left)
+    → (IsNo old.rest → verdict old from ≡ Bad Unexpected old.rest)
     → ReadsToken symbol NoMemory Is IsNo ps old new (Err e) → EndsBad e new (verdict old from)
 bad_token symbol NoMemory Is IsNo ps d from old new errors.OutOfMemory deep goes others b = tt
 bad_token symbol NoMemory Is IsNo ps d from old new (errors.Fault Unexpected) deep goes others b =
-    bad_here Unexpected old new _ (ap (λ s. s.left) b.1) (others b.0)
+    bad_here Unexpected old new _ (ap (λ s. s.rest) b.1) (others b.0)
 bad_token symbol NoMemory Is IsNo ps d from old new (errors.Fault TooDeep) deep goes others b =
     absurd b
 bad_token symbol NoMemory Is IsNo ps d from old new (errors.Fault TooMany) deep goes others b =
     bad_here TooMany old new _ b.1
     (too_many old ps d from b.0 deep
-    (λ x h. let l = head_is old.left x h in goes x l.0 (subst Is l.1 b.2)))
+    (λ x h. let l = head_is old.rest x h in goes x l.0 (subst Is l.1 b.2)))
 
 pub bad_name : (ps : List Part) (d : ℕ) (from : ParserState) (old new : Spot) (e : ParseError)
     → d ≤ 32 → ((t : List ℕ) (p : ℕ)
     → (next : ParserState) × (next_step from (name t p) ≡ to next (first ps d (name t p))))
-    → (NoName old.left → verdict old from ≡ Bad Unexpected old.left) → ReadsName ps old new (Err e)
+    → (NoName old.rest → verdict old from ≡ Bad Unexpected old.rest) → ReadsName ps old new (Err e)
     → EndsBad e new (verdict old from)
 bad_name ps d from old new e deep names others b =
     bad_token (λ (n : Name). ident (name_view n)) (Unit {0}) IsName NoName ps d from old new e deep
@@ -97,7 +97,7 @@ bad_name ps d from old new e deep names others b =
 pub bad_number : (ps : List Part) (d : ℕ) (from : ParserState) (old new : Spot) (e : ParseError)
     → d ≤ 32 → ((n : ℕ) → (next : ParserState)
     × (next_step from (number n) ≡ to next (first ps d (number n))))
-    → (NoNumber old.left → verdict old from ≡ Bad Unexpected old.left)
+    → (NoNumber old.rest → verdict old from ≡ Bad Unexpected old.rest)
     → ReadsNumber ps old new (Err e) → EndsBad e new (verdict old from)
 bad_number ps d from old new e deep numbers others b =
     bad_token (λ (digits : Digits). number digits.value) ⊥ IsNumber NoNumber ps d from old new e
@@ -158,7 +158,7 @@ no_factor : (h : FactorHole) (x : Symbol) → NoName (x ∷ []) → NoNumber (x 
     → (x ≡ additive Minus → ⊥) → (x ≡ sign s.Open → ⊥) → next_step (factor_wanted h) x ≡ None
 no_factor h it a b c d = grind arith
 
-pub bad_column : (old new : Spot) (e : ParseError) → IsName old.left
+pub bad_column : (old new : Spot) (e : ParseError) → IsName old.rest
     → ReadsName (part.Operand ∷ []) old new (Err e) → ReadsOperand old new (Err e)
 bad_column old new e is b h deep = grind (arith, bad_name, no_name_there)
 
@@ -167,7 +167,7 @@ pub bad_negative : (old mid new : Spot) (e : ParseError) → Takes old mid (addi
 bad_negative old mid new e t b h deep =
     grind (arith, takes, bad_number, stuck, only_number, head_no_number)
 
-pub bad_constant : (old mid new : Spot) (e : ParseError) → mid ≡ old → NoName old.left
+pub bad_constant : (old mid new : Spot) (e : ParseError) → mid ≡ old → NoName old.rest
     → No (additive Minus) old → No (sign s.Open) old
     → ReadsNumber (part.Operand ∷ []) mid new (Err e) → ReadsOperand old new (Err e)
 bad_constant old mid new e here no_name no_minus no_open b h deep =
@@ -236,15 +236,15 @@ not_opened x ps d old new false e n = n
 
 -- the same from a state that reads the next symbol alike
 pub same_from : (old : Spot) (from other : ParserState) → query_at_end from ≡ query_at_end other
-    → ((x : Symbol) → head_of old.left ≡ Some x → next_step from x ≡ next_step other x)
+    → ((x : Symbol) → head_of old.rest ≡ Some x → next_step from x ≡ next_step other x)
     → verdict old from ≡ verdict old other
-same_from old from other ends_alike steps_alike = by_left old.left steps_alike
+same_from old from other ends_alike steps_alike = by_rest old.rest steps_alike
   where
-    by_left : (left : List Symbol)
-        → ((x : Symbol) → head_of left ≡ Some x → next_step from x ≡ next_step other x)
-        → run left from old.counts ≡ run left other old.counts
-    by_left [] f = ap ends ends_alike
-    by_left (x ∷ xs) f = ap (λ o. verdict_after o old.counts (x ∷ xs) (run xs)) (f x refl)
+    by_rest : (rest : List Symbol)
+        → ((x : Symbol) → head_of rest ≡ Some x → next_step from x ≡ next_step other x)
+        → run rest from old.counts ≡ run rest other old.counts
+    by_rest [] f = ap ends ends_alike
+    by_rest (x ∷ xs) f = ap (λ o. verdict_after o old.counts (x ∷ xs) (run xs)) (f x refl)
 
 -- the same from a spot and a state before
 pub along : {A T P H : Type 0} (view : A → T) (tree : P → T) (IsHole : H → Type 0)

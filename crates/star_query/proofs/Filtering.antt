@@ -87,7 +87,7 @@ equal_step h i (name t p) none = absurd none
 equal_step h i _ none = refl
 
 pub read_equal : (old new : Spot) (i : Name) (answer : Result (Condition Test) ParseError)
-    → NoName old.left → ReadsNamed (λ h. lit_wanted (compared h (name_view i) r.Equal)) old new
+    → NoName old.rest → ReadsNamed (λ h. lit_wanted (compared h (name_view i) r.Equal)) old new
     answer → ReadsNamed (λ h. equal_had h (name_view i)) old new answer
 read_equal old new i answer none reads = grind (arith, along, same_from, equal_step, head_no_name)
 

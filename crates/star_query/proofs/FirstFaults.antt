@@ -23,14 +23,14 @@ symbols-append (m ∷ front) more = ap (λ l. m.symbol ∷ l) (symbols-append fr
 
 -- what breaks a limit is a mark of the query
 broken : (xs : List Symbol) (tree : Tree) (d : Derives xs tree) (front : List Mark) (at : Mark)
-    (left : List Symbol) → xs ≡ symbols_at front ++ at.symbol ∷ left
+    (rest : List Symbol) → xs ≡ symbols_at front ++ at.symbol ∷ rest
     → BeginsQuery (front ++ at ∷ []) → (more : List Mark) × (d.marks ≡ (front ++ at ∷ []) ++ more)
-broken xs tree d front at left cut begun =
+broken xs tree d front at rest cut begun =
     let reached = front ++ at ∷ [] in
-    let all : symbols_at d.marks ≡ symbols_at reached ++ left =
-    d.written ∙ cut ∙ sym (append_assoc (symbols_at front) (at.symbol ∷ []) left)
-    ∙ ap (λ l. l ++ left) (sym (symbols-append front (at ∷ []))) in
-    let s = split d.marks reached left all in
+    let all : symbols_at d.marks ≡ symbols_at reached ++ rest =
+    d.written ∙ cut ∙ sym (append_assoc (symbols_at front) (at.symbol ∷ []) rest)
+    ∙ ap (λ l. l ++ rest) (sym (symbols-append front (at ∷ []))) in
+    let s = split d.marks reached rest all in
     let begins : BeginsQuery s.0 =
     record { more = s.1; tree = tree; query = subst (λ ms. IsQuery ms tree) s.2 d.query } in
     (s.1, s.2 ∙ ap (λ l. l ++ s.1) (one_front s.0 reached begins begun s.3))
@@ -41,21 +41,21 @@ holds_at P [] more at all = all.0
 holds_at P (m ∷ front) more at all = holds_at P front more at all.1
 
 never_fails : (xs : List Symbol) (tree : Tree) (d : Derives xs tree) (front : List Mark)
-    (fault : Fault) (left : List Symbol) → xs ≡ symbols_at front ++ left
-    → QueryFails front fault left → ⊥
+    (fault : Fault) (rest : List Symbol) → xs ≡ symbols_at front ++ rest
+    → QueryFails front fault rest → ⊥
 never_fails xs tree d front _ _ cut (unexpected [] none) =
     none d.marks tree d.query (d.written ∙ cut ∙ append-nil (symbols_at front))
-never_fails xs tree d front _ _ cut (unexpected (x ∷ left) none) =
-    none d.marks tree left d.query (d.written ∙ cut)
-never_fails xs tree d front _ _ cut (too_deep at left begun over) =
-    let way = broken xs tree d front at left cut begun in
+never_fails xs tree d front _ _ cut (unexpected (x ∷ rest) none) =
+    none d.marks tree rest d.query (d.written ∙ cut)
+never_fails xs tree d front _ _ cut (too_deep at rest begun over) =
+    let way = broken xs tree d front at rest cut begun in
     let shallow = holds_at (λ m. m.depth ≤ 32) front way.0 at
     (subst (AllByRecursion (λ m. m.depth ≤ 32)) way.1 d.within.depth) in
     omega (arith, shallow, over)
-never_fails xs tree d front _ _ cut (too_many at left begun shallow over) = by over
+never_fails xs tree d front _ _ cut (too_many at rest begun shallow over) = by over
   where
     way : (more : List Mark) × (d.marks ≡ (front ++ at ∷ []) ++ more)
-    way = broken xs tree d front at left cut begun
+    way = broken xs tree d front at rest cut begun
 
     by : ((p : Part) × (limit p < count_begun p (front ++ at ∷ []))) ⊎ (IsShortName at.symbol → ⊥)
         → ⊥
@@ -68,13 +68,13 @@ never_fails xs tree d front _ _ cut (too_many at left begun shallow over) = by o
 
 -- ---- texts
 
-never_left : (bytes : List ℕ) (tree : Tree) (fault : Fault) (left : List Placed) → Means bytes tree
-    → StopsAt bytes fault left → ⊥
-never_left bytes tree fault left m s =
-    never_fails (symbols (s.front ++ left)) tree
+never_stops : (bytes : List ℕ) (tree : Tree) (fault : Fault) (rest : List Placed) → Means bytes tree
+    → StopsAt bytes fault rest → ⊥
+never_stops bytes tree fault rest m s =
+    never_fails (symbols (s.front ++ rest)) tree
     (subst (λ ts. Derives (symbols ts) tree)
-    (one_cut bytes m.tokens (s.front ++ left) m.cut s.cut) m.derives) s.first.front fault
-    (symbols left) s.first.cut s.first.fails
+    (one_cut bytes m.tokens (s.front ++ rest) m.cut s.cut) m.derives) s.first.front fault
+    (symbols rest) s.first.cut s.first.fails
 
 never_cut : (bytes : List ℕ) (tree : Tree) (fault : QueryFault) → Means bytes tree
     → IsStopped bytes fault → ⊥
@@ -87,9 +87,9 @@ pub no_fault : (bytes : List ℕ) (tree : Tree) (fault : QueryFault) → fault �
 no_fault bytes tree faults.OutOfMemory other m h = other refl
 no_fault bytes tree faults.TooLong other m h = omega (arith, m.short, h)
 no_fault bytes tree (faults.Unexpected offset) other m h =
-    never_left bytes tree Unexpected h.0 m h.1
-no_fault bytes tree faults.TooDeep other m h = never_left bytes tree TooDeep h.0 m h.1
-no_fault bytes tree faults.TooMany other m h = never_left bytes tree TooMany h.0 m h.1
+    never_stops bytes tree Unexpected h.0 m h.1
+no_fault bytes tree faults.TooDeep other m h = never_stops bytes tree TooDeep h.0 m h.1
+no_fault bytes tree faults.TooMany other m h = never_stops bytes tree TooMany h.0 m h.1
 no_fault bytes tree (faults.BadCharacter offset) other m h = never_cut bytes tree _ m h.1
 no_fault bytes tree (faults.BadNumber offset) other m h = never_cut bytes tree _ m h.1
 no_fault bytes tree (faults.OpenText offset) other m h = never_cut bytes tree _ m h.1

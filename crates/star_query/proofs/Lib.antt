@@ -22,4 +22,4 @@ pub mod Reserved
 pub mod FirstFaults
 pub mod PhraseMarks
 pub mod Phrased
-pub mod Told
+pub mod TextResults

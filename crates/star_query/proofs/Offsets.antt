@@ -1,4 +1,4 @@
--- The position of the tokens that are left.
+-- The position of the remaining tokens.
 use Rattle.std.proofs.Common.{◌≡◌, ℕ, ◌<◌, List, [], ◌∷◌, zero, suc, map, length, drop, get_or, ap, arith}
 use Rattle.star_query.specs.{declared.token.Token.Token, Private.Lexed.placed, Derives.first_offset}
 

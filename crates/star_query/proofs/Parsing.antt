@@ -10,40 +10,40 @@ pub spot_symbols : (ts : List Token)
 spot_symbols [] = refl
 spot_symbols (t ∷ ts) = ap (λ l. symbol_of t.kind t.offset ∷ l) (spot_symbols ts)
 
--- what is left has its position by its length
-left_over : (tokens : List Placed) (front left : List Symbol) → symbols tokens ≡ front ++ left
-    → symbols (drop (length tokens - length left) tokens) ≡ left
-left_over tokens front left e =
-    let count : length tokens - length left ≡ length front =
-    omega (arith, ap length e, length-map tokens (λ t. t.symbol), length-append front left) in
-    sym (drop-map (λ t. t.symbol) (length tokens - length left) tokens)
-    ∙ ap (drop (length tokens - length left)) e ∙ ap (λ n. drop n (front ++ left)) count
-    ∙ drop-append_seam front left
+-- the remaining tokens are found by their number
+rest_symbols : (tokens : List Placed) (front rest : List Symbol) → symbols tokens ≡ front ++ rest
+    → symbols (drop (length tokens - length rest) tokens) ≡ rest
+rest_symbols tokens front rest e =
+    let count : length tokens - length rest ≡ length front =
+    omega (arith, ap length e, length-map tokens (λ t. t.symbol), length-append front rest) in
+    sym (drop-map (λ t. t.symbol) (length tokens - length rest) tokens)
+    ∙ ap (drop (length tokens - length rest)) e ∙ ap (λ n. drop n (front ++ rest)) count
+    ∙ drop-append_seam front rest
 
-pub stops_at : (tokens : List Placed) (f : Fault) (left : List Symbol)
-    → verdict_of (symbols tokens) ≡ Bad f left
-    → TokensStopAt tokens f (drop (length tokens - length left) tokens)
-stops_at tokens f left e =
-    let first = first_fault (symbols tokens) f left e in
-    let n = length tokens - length left in
+pub stops_at : (tokens : List Placed) (f : Fault) (rest : List Symbol)
+    → verdict_of (symbols tokens) ≡ Bad f rest
+    → TokensStopAt tokens f (drop (length tokens - length rest) tokens)
+stops_at tokens f rest e =
+    let first = first_fault (symbols tokens) f rest e in
+    let n = length tokens - length rest in
     record {
       front = take n tokens;
       cut = sym (take-append-drop n tokens);
       first = subst (FirstQueryFault (symbols tokens) f)
-          (sym (left_over tokens (symbols_at first.front) left first.cut)) first;
+          (sym (rest_symbols tokens (symbols_at first.front) rest first.cut)) first;
     }
 
-pub token_fault : (tokens : List Placed) (f : Fault) (left : List Symbol) (offset end : ℕ)
-    → verdict_of (symbols tokens) ≡ Bad f left
-    → offset ≡ first_offset (drop (length tokens - length left) tokens) end
+pub token_fault : (tokens : List Placed) (f : Fault) (rest : List Symbol) (offset end : ℕ)
+    → verdict_of (symbols tokens) ≡ Bad f rest
+    → offset ≡ first_offset (drop (length tokens - length rest) tokens) end
     → IsTokenFault tokens end (refusal_of f offset)
-token_fault tokens it left offset end e at = grind (arith, stops_at)
+token_fault tokens it rest offset end e at = grind (arith, stops_at)
 
-pub no_tree : (xs : List Symbol) (f : Fault) (left : List Symbol) (offset : ℕ) (t : tree.Tree)
-    → verdict_of xs ≡ Bad f left → Derives xs t → IsTreeRead t (Err (refusal_of f offset))
-no_tree xs Unexpected left offset t e d = refuses xs Unexpected left t e d
-no_tree xs TooDeep left offset t e d = refuses xs TooDeep left t e d
-no_tree xs TooMany left offset t e d = refuses xs TooMany left t e d
+pub no_tree : (xs : List Symbol) (f : Fault) (rest : List Symbol) (offset : ℕ) (t : tree.Tree)
+    → verdict_of xs ≡ Bad f rest → Derives xs t → IsTreeRead t (Err (refusal_of f offset))
+no_tree xs Unexpected rest offset t e d = refuses xs Unexpected rest t e d
+no_tree xs TooDeep rest offset t e d = refuses xs TooDeep rest t e d
+no_tree xs TooMany rest offset t e d = refuses xs TooMany rest t e d
 
 -- the text means a tree of its tokens
 pub meant : (bytes : List ℕ) (tokens : List Placed) (t : tree.Tree) → cut_of bytes ≡ Ok tokens
@@ -60,35 +60,35 @@ fresh ts n e =
 
 -- what the parser of tokens read
 pub tokens_derive : (ts : List Token) (n : Counts) (new : Spot) (t : Tree) → n ≡ nothing_counted
-    → ReadsQuery (record { left = map (λ t. symbol_of t.kind t.offset) ts; counts = n }) new (Ok t)
+    → ReadsQuery (record { rest = map (λ t. symbol_of t.kind t.offset) ts; counts = n }) new (Ok t)
     → Derives (symbols (map placed ts)) (tree_view t)
 tokens_derive ts n new t e reads =
     subst (Derives (symbols (map placed ts))) reads.1
     (derives (symbols (map placed ts)) reads.0 (sym (fresh ts n e) ∙ reads.2))
 
 pub tokens_read : (ts : List Token) (n : Counts) (new : Spot) (t : Tree) → n ≡ nothing_counted
-    → ReadsQuery (record { left = map (λ t. symbol_of t.kind t.offset) ts; counts = n }) new (Ok t)
+    → ReadsQuery (record { rest = map (λ t. symbol_of t.kind t.offset) ts; counts = n }) new (Ok t)
     → (u : tree.Tree) → Derives (symbols (map placed ts)) u → tree_view t ≡ u
 tokens_read ts n new t e reads u d =
     one_tree (symbols (map placed ts)) (tree_view t) u (tokens_derive ts n new t e reads) d
 
-left_length : (left : List Token) → length (map (λ t. symbol_of t.kind t.offset) left) ≡ length left
-left_length left = length-map left (λ t. symbol_of t.kind t.offset)
+rest_length : (rest : List Token) → length (map (λ t. symbol_of t.kind t.offset) rest) ≡ length rest
+rest_length rest = length-map rest (λ t. symbol_of t.kind t.offset)
 
-pub tokens_fault : (ts left : List Token) (n : Counts) (f : Fault) (offset end passed : ℕ)
+pub tokens_fault : (ts rest : List Token) (n : Counts) (f : Fault) (offset end passed : ℕ)
     → n ≡ nothing_counted → run (map (λ t. symbol_of t.kind t.offset) ts) begin n
-    ≡ Bad f (map (λ t. symbol_of t.kind t.offset) left) → passed ≡ length ts - length left
+    ≡ Bad f (map (λ t. symbol_of t.kind t.offset) rest) → passed ≡ length ts - length rest
     → offset ≡ first_offset (drop passed (map placed ts)) end
     → IsTokenFault (map placed ts) end (refusal_of f offset)
-tokens_fault ts left n f offset end passed e bad behind at =
-    grind (arith, length-map, left_length, token_fault, fresh)
+tokens_fault ts rest n f offset end passed e bad behind at =
+    grind (arith, length-map, rest_length, token_fault, fresh)
 
-pub tokens_no_tree : (ts left : List Token) (n : Counts) (f : Fault) (offset : ℕ) (u : tree.Tree)
+pub tokens_no_tree : (ts rest : List Token) (n : Counts) (f : Fault) (offset : ℕ) (u : tree.Tree)
     → n ≡ nothing_counted → run (map (λ t. symbol_of t.kind t.offset) ts) begin n
-    ≡ Bad f (map (λ t. symbol_of t.kind t.offset) left) → Derives (symbols (map placed ts)) u
+    ≡ Bad f (map (λ t. symbol_of t.kind t.offset) rest) → Derives (symbols (map placed ts)) u
     → IsTreeRead u (Err (refusal_of f offset))
-tokens_no_tree ts left n f offset u e bad d =
-    no_tree (symbols (map placed ts)) f (map (λ t. symbol_of t.kind t.offset) left) offset u
+tokens_no_tree ts rest n f offset u e bad d =
+    no_tree (symbols (map placed ts)) f (map (λ t. symbol_of t.kind t.offset) rest) offset u
     (sym (fresh ts n e) ∙ bad) d
 
 -- a query and its text
@@ -97,29 +97,29 @@ pub means_tokens : (bytes : List ℕ) (tokens : List Placed) (t : tree.Tree) →
 means_tokens bytes tokens t short cut d = grind (arith, tokens_make_text, derives)
 
 -- the parser's answer of an error
-pub error_fault : (ts left : List Token) (n m : Counts) (error : ParseError) (offset end passed : ℕ)
+pub error_fault : (ts rest : List Token) (n m : Counts) (error : ParseError) (offset end passed : ℕ)
     → n ≡ nothing_counted → EndsBad error
-    (record { left = map (λ t. symbol_of t.kind t.offset) left; counts = m })
-    (run (map (λ t. symbol_of t.kind t.offset) ts) begin n) → passed ≡ length ts - length left
+    (record { rest = map (λ t. symbol_of t.kind t.offset) rest; counts = m })
+    (run (map (λ t. symbol_of t.kind t.offset) ts) begin n) → passed ≡ length ts - length rest
     → offset ≡ first_offset (drop passed (map placed ts)) end
     → IsTokenFault (map placed ts) end (query_fault error offset)
-error_fault ts left n m errors.OutOfMemory offset end passed e bad behind at = tt
-error_fault ts left n m (errors.Fault f) offset end passed e bad behind at =
-    tokens_fault ts left n f offset end passed e bad behind at
+error_fault ts rest n m errors.OutOfMemory offset end passed e bad behind at = tt
+error_fault ts rest n m (errors.Fault f) offset end passed e bad behind at =
+    tokens_fault ts rest n f offset end passed e bad behind at
 
-pub error_no_tree : (ts left : List Token) (n m : Counts) (error : ParseError) (offset : ℕ)
+pub error_no_tree : (ts rest : List Token) (n m : Counts) (error : ParseError) (offset : ℕ)
     (u : tree.Tree) → n ≡ nothing_counted
-    → EndsBad error (record { left = map (λ t. symbol_of t.kind t.offset) left; counts = m })
+    → EndsBad error (record { rest = map (λ t. symbol_of t.kind t.offset) rest; counts = m })
     (run (map (λ t. symbol_of t.kind t.offset) ts) begin n) → Derives (symbols (map placed ts)) u
     → IsTreeRead u (Err (query_fault error offset))
-error_no_tree ts left n m errors.OutOfMemory offset u e bad d = tt
-error_no_tree ts left n m (errors.Fault f) offset u e bad d =
-    tokens_no_tree ts left n f offset u e bad d
+error_no_tree ts rest n m errors.OutOfMemory offset u e bad d = tt
+error_no_tree ts rest n m (errors.Fault f) offset u e bad d =
+    tokens_no_tree ts rest n f offset u e bad d
 
 -- the first fault of the tokens is the text's
-pub stopped : (bytes : List ℕ) (tokens left : List Placed) (fault : Fault) → length bytes ≤ 65536
-    → cut_of bytes ≡ Ok tokens → TokensStopAt tokens fault left → StopsAt bytes fault left
-stopped bytes tokens left fault short cut s = grind (arith, tokens_make_text)
+pub stopped : (bytes : List ℕ) (tokens rest : List Placed) (fault : Fault) → length bytes ≤ 65536
+    → cut_of bytes ≡ Ok tokens → TokensStopAt tokens fault rest → StopsAt bytes fault rest
+stopped bytes tokens rest fault short cut s = grind (arith, tokens_make_text)
 
 pub fault_of_tokens : (bytes : List ℕ) (tokens : List Placed) (fault : QueryFault)
     → length bytes ≤ 65536 → cut_of bytes ≡ Ok tokens → IsTokenFault tokens (length bytes) fault

@@ -26,12 +26,12 @@ comma_passed here mid t = λ from next e. past from next t e
 -- what has to be next, and isn't
 pub not_next : (x : Symbol) (old new : Spot) (from : ParserState) (e : ParseError)
     → query_at_end from ≡ None
-    → ((y : Symbol) → head_of old.left ≡ Some y → (y ≡ x → ⊥) → next_step from y ≡ None)
+    → ((y : Symbol) → head_of old.rest ≡ Some y → (y ≡ x → ⊥) → next_step from y ≡ None)
     → (e ≡ errors.Fault Unexpected) × No x old × (new ≡ old) → EndsBad e new (verdict old from)
 not_next x old new from e no_end others b =
     subst (λ f. EndsBad f new (verdict old from)) (sym b.0)
     (stuck old from (λ e. no_end) (λ y head. others y head (λ q. b.1 (head ∙ ap Some q)))
-    ∙ ap (λ s. Bad Unexpected s.left) (sym b.2))
+    ∙ ap (λ s. Bad Unexpected s.rest) (sym b.2))
 
 -- aggregates
 pub read_folded : (old a b new : Spot) (f : Fold) (x : Expression Name)
@@ -333,7 +333,7 @@ read_unmarked old mid here new n t no_desc same no_asc last = (
       ∙ same_from mid (key_named h.0 h.1 (name_view n))
       (keys_had h.0 (extended h.1 (unmarked (name_view n)))) refl
       (λ x head. key_step h.0 h.1 (name_view n) x
-      (λ q. no_asc (ap (λ s. head_of s.left) same ∙ head ∙ ap Some q))
+      (λ q. no_asc (ap (λ s. head_of s.rest) same ∙ head ∙ ap Some q))
       (λ q. no_desc (head ∙ ap Some q)))
       ∙ ap (λ s. verdict s (keys_had h.0 (extended h.1 (unmarked (name_view n)))))
       (sym (last ∙ same)),
@@ -369,18 +369,18 @@ only_semicolon g ks (sign s.Semicolon) other = absurd (other refl)
 only_semicolon g ks _ other = refl
 
 pub bad_end : (old new : Spot) (b : Bool) → (OnTrue b (Takes old new (sign s.Semicolon) []))
-    → (OnFalse b (No (sign s.Semicolon) old × (new ≡ old))) → 0 < length new.left
+    → (OnFalse b (No (sign s.Semicolon) old × (new ≡ old))) → 0 < length new.rest
     → ReadsEnd {A = Unit {0}} old new (Err (errors.Fault Unexpected))
 bad_end old new it t f some = grind (arith, past, stuck, only_semicolon)
 
-some_left : (f : Token → Symbol) (ts : List Token) (b : Bool) → b ≡ (length ts == 0) → b ≡ false
+some_remain : (f : Token → Symbol) (ts : List Token) (b : Bool) → b ≡ (length ts == 0) → b ≡ false
     → 0 < length (map f ts)
-some_left f [] b e none = cc
-some_left f (t ∷ ts) b e none = omega arith
+some_remain f [] b e none = cc
+some_remain f (t ∷ ts) b e none = omega arith
 
-pub left_over : (parser : Parser) (b : Bool) → b ≡ (length parser.left.now == 0) → b ≡ false
-    → 0 < length (spot_of parser).left
-left_over parser b e none = some_left (λ t. symbol_of t.kind t.offset) parser.left.now b e none
+pub more_remains : (parser : Parser) (b : Bool) → b ≡ (length parser.rest.now == 0) → b ≡ false
+    → 0 < length (spot_of parser).rest
+more_remains parser b e none = some_remain (λ t. symbol_of t.kind t.offset) parser.rest.now b e none
 
 -- what was refused in a list
 pub bad_aggregate : (f : Function) (old mid new : Spot) (m : Measure Name) (e : ParseError)

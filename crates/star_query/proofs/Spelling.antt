@@ -61,11 +61,11 @@ unfolding is_printable_text
 token_spelled offset bytes x it =
     grind (arith, reserved_spelled, and_parts, and_from, lowered_begins, lowered_passes, few_digits)
 
-pub tokens_spelled : (end : ℕ) (left : List ℕ) (offset : ℕ) (bytes : List ℕ) (ts : List Placed)
-    → AreTokens end left offset bytes ts → list_all token_is_spelled (symbols ts) ≡ true
-tokens_spelled end left _ _ _ no_more = refl
-tokens_spelled end left _ _ _ (white_space offset b bytes tokens e rest) =
-    tokens_spelled end left (offset + 1) bytes tokens rest
-tokens_spelled end left _ _ _ (a_token offset word bytes x tokens is over rest) =
+pub tokens_spelled : (end : ℕ) (rest : List ℕ) (offset : ℕ) (bytes : List ℕ) (ts : List Placed)
+    → AreTokens end rest offset bytes ts → list_all token_is_spelled (symbols ts) ≡ true
+tokens_spelled end rest _ _ _ no_more = refl
+tokens_spelled end rest _ _ _ (white_space offset b bytes tokens e are) =
+    tokens_spelled end rest (offset + 1) bytes tokens are
+tokens_spelled end rest _ _ _ (a_token offset word bytes x tokens is over are) =
     and_from _ _ (token_spelled offset word x is)
-    (tokens_spelled end left (offset + length word) bytes tokens rest)
+    (tokens_spelled end rest (offset + length word) bytes tokens are)

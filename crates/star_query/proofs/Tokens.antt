@@ -4,8 +4,8 @@ use Rattle.star_query.{specs.declared.parser.Parser.Parser, specs.declared.count
 use Rattle.star_query.specs.declared.fault.ParseError.TheVariants as errors
 
 beyond_token : (Is : List Symbol → Type 0) → (Is [] → ⊥)
-    → (p : Part) (n : Counts) (left : List Symbol) → Is left → limit p ≤ count_of_part n p
-    → IsBeyond (p ∷ []) n left
+    → (p : Part) (n : Counts) (rest : List Symbol) → Is rest → limit p ≤ count_of_part n p
+    → IsBeyond (p ∷ []) n rest
 beyond_token Is there p n [] is e = there is
 beyond_token Is there p n (x ∷ xs) is e = rw (one_too_many p n e) refl
 
@@ -24,12 +24,12 @@ pub unquoted_next : (inside so_far after : List ℕ) (i b : ℕ) (q p : Bool) �
 unquoted_next inside so_far after i b q p below was same byte now e =
     grind (arith, drop_more, append_assoc)
 
-pub no_name_there : (left : List Symbol) → IsName left → NoName left → ⊥
+pub no_name_there : (rest : List Symbol) → IsName rest → NoName rest → ⊥
 no_name_there [] is none = is
 no_name_there (name t p ∷ xs) is none = none
 no_name_there (_ ∷ xs) is none = is
 
-pub no_number_there : (left : List Symbol) → IsNumber left → NoNumber left → ⊥
+pub no_number_there : (rest : List Symbol) → IsNumber rest → NoNumber rest → ⊥
 no_number_there [] is none = is
 no_number_there (number n ∷ xs) is none = none
 no_number_there (_ ∷ xs) is none = is
@@ -44,38 +44,38 @@ counted_takes : (p : Part) (old mid new : Spot) (x : Symbol) → HasCounted p ol
 counted_takes p old mid new x c t = grind (arith, one_allowed)
 
 counted_beyond : (p : Part) (old mid : Spot) → HasCounted p old mid
-    → IsBeyond [] mid.counts mid.left → IsBeyond (p ∷ []) old.counts old.left
+    → IsBeyond [] mid.counts mid.rest → IsBeyond (p ∷ []) old.counts old.rest
 counted_beyond p old mid c b = grind (arith, one_allowed)
 
 -- where a part begins with a token of a kind
 pub token_counted : {A : Type 0} (symbol : A → Symbol) (NoMemory : Type 0)
-    (Is IsNo : List Symbol → Type 0) → ((left : List Symbol) → Is left → IsNo left → ⊥)
-    → (p : Part) (old mid new : Spot) (r : Result A ParseError) → Is old.left → HasCounted p old mid
+    (Is IsNo : List Symbol → Type 0) → ((rest : List Symbol) → Is rest → IsNo rest → ⊥)
+    → (p : Part) (old mid new : Spot) (r : Result A ParseError) → Is old.rest → HasCounted p old mid
     → ReadsToken symbol NoMemory Is IsNo [] mid new r
     → ReadsToken symbol NoMemory Is IsNo (p ∷ []) old new r
 token_counted symbol NoMemory Is IsNo apart p old mid new (Ok x) is c t =
     counted_takes p old mid new _ c t
 token_counted symbol NoMemory Is IsNo apart p old mid new (Err errors.OutOfMemory) is c t = t
 token_counted symbol NoMemory Is IsNo apart p old mid new (Err (errors.Fault Unexpected)) is c t =
-    absurd (apart old.left is (subst IsNo (ap (λ s. s.left) c.1) t.0))
+    absurd (apart old.rest is (subst IsNo (ap (λ s. s.rest) c.1) t.0))
 token_counted symbol NoMemory Is IsNo apart p old mid new (Err (errors.Fault TooDeep)) is c t = t
 token_counted symbol NoMemory Is IsNo apart p old mid new (Err (errors.Fault TooMany)) is c t =
-    (counted_beyond p old mid c t.0, t.1 ∙ ap (λ s. s.left) c.1, is)
+    (counted_beyond p old mid c t.0, t.1 ∙ ap (λ s. s.rest) c.1, is)
 
 pub token_not_counted : {A : Type 0} (symbol : A → Symbol) (NoMemory : Type 0)
     (Is IsNo : List Symbol → Type 0) → (Is [] → ⊥) → (p : Part) (old new : Spot) (e : ParseError)
-    → Is old.left → (e ≡ errors.Fault TooMany) × (limit p ≤ count_of_part old.counts p)
+    → Is old.rest → (e ≡ errors.Fault TooMany) × (limit p ≤ count_of_part old.counts p)
     × (new ≡ old) → ReadsToken symbol NoMemory Is IsNo (p ∷ []) old new (Err e)
 token_not_counted symbol NoMemory Is IsNo there p old new e is c =
     subst (λ f. ReadsToken symbol NoMemory Is IsNo (p ∷ []) old new (Err f)) (sym c.0)
-    (beyond_token Is there p old.counts old.left is c.1, ap (λ s. s.left) c.2, is)
+    (beyond_token Is there p old.counts old.rest is c.1, ap (λ s. s.rest) c.2, is)
 
 f_length : {A B : Type 0} (f : A → B) (old new : List A) (x : B) → map f old ≡ x ∷ map f new
     → length new ≤ length old
 f_length f old new x e = omega (arith, ap length e, length-map old f, length-map new f)
 
--- fewer tokens are left
+-- fewer tokens remain
 pub shorter : (old new : Parser) (x : Symbol) (ps : List Part)
-    → Takes (spot_of old) (spot_of new) x ps → length new.left.now ≤ length old.left.now
+    → Takes (spot_of old) (spot_of new) x ps → length new.rest.now ≤ length old.rest.now
 shorter old new x ps t =
-    f_length (λ t. symbol_of t.kind t.offset) old.left.now new.left.now x t.next
+    f_length (λ t. symbol_of t.kind t.offset) old.rest.now new.rest.now x t.next

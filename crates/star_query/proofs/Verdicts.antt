@@ -21,8 +21,8 @@ goes_passed (m ∷ ms) from last g rest =
 
 -- from one state to another through marks within the limits
 pub record Reaches (from : ParserState) (n : Counts) (xs : List Symbol) (last : ParserState)
-    (n' : Counts) (ms : List Mark) (left : List Symbol) : Type 0 where
-  pub cut : xs ≡ symbols_at ms ++ left
+    (n' : Counts) (ms : List Mark) (rest : List Symbol) : Type 0 where
+  pub cut : xs ≡ symbols_at ms ++ rest
   pub goes : Goes from ms last
   pub depth : AllByRecursion (λ m. m.depth ≤ 32) ms
   pub names : AllByRecursion (λ m. IsShortName m.symbol) ms
@@ -30,11 +30,11 @@ pub record Reaches (from : ParserState) (n : Counts) (xs : List Symbol) (last : 
   pub fits : (p : Part) → count_of_part n' p ≤ limit p
 
 -- why it stops there
-pub record Halts (IsOver : Mark → Type 0) (from : ParserState) (left : List Symbol) : Type 0 where
+pub record Halts (IsOver : Mark → Type 0) (from : ParserState) (rest : List Symbol) : Type 0 where
   pub next : ParserState
   pub at : Mark
   pub others : List Symbol
-  pub here : left ≡ at.symbol ∷ others
+  pub here : rest ≡ at.symbol ∷ others
   pub does : next_step from at.symbol ≡ to next at
   pub over : IsOver at
 
@@ -44,29 +44,29 @@ IsBeyond n m = (nat_lt 32 m.depth ≡ false)
 
 abbrev pub HaltsAt : Fault → ParserState → Counts → List Symbol → Type 0
 HaltsAt Unexpected from n [] = query_at_end from ≡ None
-HaltsAt Unexpected from n (x ∷ left) = next_step from x ≡ None
-HaltsAt TooDeep from n left = Halts (λ m. nat_lt 32 m.depth ≡ true) from left
-HaltsAt TooMany from n left = Halts (IsBeyond n) from left
+HaltsAt Unexpected from n (x ∷ rest) = next_step from x ≡ None
+HaltsAt TooDeep from n rest = Halts (λ m. nat_lt 32 m.depth ≡ true) from rest
+HaltsAt TooMany from n rest = Halts (IsBeyond n) from rest
 
 -- what a verdict says of the way to it
 abbrev pub Found : ParserState → Counts → List Symbol → Verdict → Type 0
 Found from n xs (Whole q) =
     (last : ParserState) × (n' : Counts) × (ms : List Mark) × Reaches from n xs last n' ms []
     × (query_at_end last ≡ Some q)
-Found from n xs (Bad f left) =
-    (last : ParserState) × (n' : Counts) × (ms : List Mark) × Reaches from n xs last n' ms left
-    × HaltsAt f last n' left
+Found from n xs (Bad f rest) =
+    (last : ParserState) × (n' : Counts) × (ms : List Mark) × Reaches from n xs last n' ms rest
+    × HaltsAt f last n' rest
 
 here_already : (from : ParserState) (n : Counts) (xs : List Symbol) → Fits n
     → Reaches from n xs from n [] xs
 here_already from n xs fits = grind arith
 
 one_before : (from : ParserState) (n : Counts) (x : Symbol) (xs : List Symbol) (st : Step)
-    (last : ParserState) (n' : Counts) (ms : List Mark) (left : List Symbol)
+    (last : ParserState) (n' : Counts) (ms : List Mark) (rest : List Symbol)
     → next_step from x ≡ Some st → nat_lt 32 st.at.depth ≡ false → is_long st.at.symbol ≡ false
-    → Reaches st.next (plus n st.at.parts) xs last n' ms left
-    → Reaches from n (x ∷ xs) last n' (st.at ∷ ms) left
-one_before from n x xs st last n' ms left e shallow short r =
+    → Reaches st.next (plus n st.at.parts) xs last n' ms rest
+    → Reaches from n (x ∷ xs) last n' (st.at ∷ ms) rest
+one_before from n x xs st last n' ms rest e shallow short r =
     grind (arith, step_moves, ltb-false, short_name, number-plus)
 
 before : (from : ParserState) (n : Counts) (x : Symbol) (xs : List Symbol) (st : Step)
@@ -74,8 +74,8 @@ before : (from : ParserState) (n : Counts) (x : Symbol) (xs : List Symbol) (st :
     → (v : Verdict) → Found st.next (plus n st.at.parts) xs v → Found from n (x ∷ xs) v
 before from n x xs st e shallow short (Whole q) r =
     (r.0, r.1, st.at ∷ r.2, one_before from n x xs st r.0 r.1 r.2 [] e shallow short r.3, r.4)
-before from n x xs st e shallow short (Bad f left) r =
-    (r.0, r.1, st.at ∷ r.2, one_before from n x xs st r.0 r.1 r.2 left e shallow short r.3, r.4)
+before from n x xs st e shallow short (Bad f rest) r =
+    (r.0, r.1, st.at ∷ r.2, one_before from n x xs st r.0 r.1 r.2 rest e shallow short r.3, r.4)
 
 halts_at : (IsOver : Mark → Type 0) (from : ParserState) (x : Symbol) (xs : List Symbol) (st : Step)
     → next_step from x ≡ Some st → IsOver st.at → Halts IsOver from (x ∷ xs)
@@ -185,8 +185,8 @@ only xs t d =
 
 -- what was reached from the beginning is within the limits
 reached_within : (xs : List Symbol) (last : ParserState) (n : Counts) (ms : List Mark)
-    (left : List Symbol) → Reaches begin nothing_counted xs last n ms left → AreWithinLimits ms
-reached_within xs last n ms left r = grind (arith, none_counted)
+    (rest : List Symbol) → Reaches begin nothing_counted xs last n ms rest → AreWithinLimits ms
+reached_within xs last n ms rest r = grind (arith, none_counted)
 
 derives_found : (xs : List Symbol) (q : Query) → Found begin nothing_counted xs (Whole q)
     → Derives xs (query_tree q)
@@ -256,12 +256,12 @@ no_end (f ∷ fs) (m ∷ ms) from last q g way same e =
     let next = sym (same_next g.0 way.0 m f steps) in
     no_end fs ms g.0 last q g.2 (subst (λ s. Goes s fs last) next way.2) rest e
 
-dead : (front : List Mark) (last : ParserState) (n : Counts) (left : List Symbol)
-    → Goes begin front last → HaltsAt Unexpected last n left → NoQueryGoesOn (symbols_at front) left
+dead : (front : List Mark) (last : ParserState) (n : Counts) (rest : List Symbol)
+    → Goes begin front last → HaltsAt Unexpected last n rest → NoQueryGoesOn (symbols_at front) rest
 dead front last n [] way e =
     λ ms t is same. let r = is_query is in
     no_end front (query_marks r.0) begin last r.0 (query_goes r.0) way (ap symbols_at r.1 ∙ same) e
-dead front last n (x ∷ left) way e =
+dead front last n (x ∷ rest) way e =
     λ ms t more is same. let r = is_query is in
     no_way front (query_marks r.0) begin last x more r.0 (query_goes r.0) way
     (ap symbols_at r.1 ∙ same) e
@@ -299,36 +299,36 @@ beyond front n numbers m over =
     grind (arith, common_steps, ltb-false, either, over_some, number-plus, count_of-append)
 
 -- a query begins with what was read and the next symbol
-begins_there : {Over : Mark → Type 0} (front : List Mark) (last : ParserState) (left : List Symbol)
-    → Goes begin front last → (h : Halts Over last left) → BeginsQuery (front ++ h.at ∷ [])
-begins_there front last left way h =
+begins_there : {Over : Mark → Type 0} (front : List Mark) (last : ParserState) (rest : List Symbol)
+    → Goes begin front last → (h : Halts Over last rest) → BeginsQuery (front ++ h.at ∷ [])
+begins_there front last rest way h =
     begins (front ++ h.at ∷ []) h.next (goes_one_more front begin last h.next h.at way h.does)
 
-fails : (f : Fault) (front : List Mark) (last : ParserState) (n : Counts) (left : List Symbol)
+fails : (f : Fault) (front : List Mark) (last : ParserState) (n : Counts) (rest : List Symbol)
     → ((p : Part) → count_of_part n p ≡ count_begun p front) → Goes begin front last
-    → HaltsAt f last n left → QueryFails front f left
-fails Unexpected front last n left numbers way h = unexpected left (dead front last n left way h)
-fails TooDeep front last n left numbers way h =
+    → HaltsAt f last n rest → QueryFails front f rest
+fails Unexpected front last n rest numbers way h = unexpected rest (dead front last n rest way h)
+fails TooDeep front last n rest numbers way h =
     subst (QueryFails front TooDeep) (sym h.here)
-    (too_deep h.at h.others (begins_there front last left way h) (ltb-true _ _ h.over))
-fails TooMany front last n left numbers way h =
+    (too_deep h.at h.others (begins_there front last rest way h) (ltb-true _ _ h.over))
+fails TooMany front last n rest numbers way h =
     let over = beyond front n numbers h.at h.over in
     subst (QueryFails front TooMany) (sym h.here)
-    (too_many h.at h.others (begins_there front last left way h) over.0 over.1)
+    (too_many h.at h.others (begins_there front last rest way h) over.0 over.1)
 
-first_found : (xs : List Symbol) (f : Fault) (left : List Symbol)
-    → Found begin nothing_counted xs (Bad f left) → FirstQueryFault xs f left
-first_found xs f left r = grind (arith, begins, reached_within, fails, none_counted)
+first_found : (xs : List Symbol) (f : Fault) (rest : List Symbol)
+    → Found begin nothing_counted xs (Bad f rest) → FirstQueryFault xs f rest
+first_found xs f rest r = grind (arith, begins, reached_within, fails, none_counted)
 
-pub first_fault : (xs : List Symbol) (f : Fault) (left : List Symbol) → verdict_of xs ≡ Bad f left
-    → FirstQueryFault xs f left
-first_fault xs f left e =
-    first_found xs f left (subst (Found begin nothing_counted xs) e
+pub first_fault : (xs : List Symbol) (f : Fault) (rest : List Symbol) → verdict_of xs ≡ Bad f rest
+    → FirstQueryFault xs f rest
+first_fault xs f rest e =
+    first_found xs f rest (subst (Found begin nothing_counted xs) e
     (found xs begin nothing_counted fits_at_first))
 
-pub refuses : (xs : List Symbol) (f : Fault) (left : List Symbol) (t : Tree)
-    → verdict_of xs ≡ Bad f left → Derives xs t → ⊥
-refuses xs f left t e d = let o = only xs t d in let w : Whole o.0 ≡ Bad f left = sym o.1 ∙ e in cc
+pub refuses : (xs : List Symbol) (f : Fault) (rest : List Symbol) (t : Tree)
+    → verdict_of xs ≡ Bad f rest → Derives xs t → ⊥
+refuses xs f rest t e d = let o = only xs t d in let w : Whole o.0 ≡ Bad f rest = sym o.1 ∙ e in cc
 
 -- marks that begin a query are those that the machine puts
 same_front : (a b ms ns : List Mark) (from : ParserState) (q r : Query) → Accepts from (a ++ ms) q

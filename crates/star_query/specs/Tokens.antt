@@ -56,13 +56,13 @@ is_whole x (b ∷ bs) = not (continues x b)
 
 -- the bytes from a position on are white space and these tokens, up to the remaining bytes after
 -- these
-pub data AreTokens (end : ℕ) (left : List ℕ) : (offset : ℕ) → (bytes : List ℕ) → List Placed → Type 0 where
-  no_more : AreTokens end left end left []
+pub data AreTokens (end : ℕ) (rest : List ℕ) : (offset : ℕ) → (bytes : List ℕ) → List Placed → Type 0 where
+  no_more : AreTokens end rest end rest []
   white_space : (offset b : ℕ) (bytes : List ℕ) (tokens : List Placed) → is_blank b ≡ true
-      → AreTokens end left (offset + 1) bytes tokens → AreTokens end left offset (b ∷ bytes) tokens
+      → AreTokens end rest (offset + 1) bytes tokens → AreTokens end rest offset (b ∷ bytes) tokens
   a_token : (offset : ℕ) (word bytes : List ℕ) (x : Symbol) (tokens : List Placed) → IsToken offset word x → is_whole x bytes ≡ true
-      → AreTokens end left (offset + length word) bytes tokens
-      → AreTokens end left offset (word ++ bytes) (record { symbol = x; offset = offset } ∷ tokens)
+      → AreTokens end rest (offset + length word) bytes tokens
+      → AreTokens end rest offset (word ++ bytes) (record { symbol = x; offset = offset } ∷ tokens)
 
 -- ---- faults
 
@@ -83,6 +83,6 @@ pub data Stops (offset : ℕ) : (bytes : List ℕ) → QueryFault → Type 0 whe
 pub record IsStopped (bytes : List ℕ) (fault : QueryFault) : Type 0 where
   pub tokens : List Placed
   pub end : ℕ
-  pub left : List ℕ
-  pub before : AreTokens end left 0 bytes tokens
-  pub stops : Stops end left fault
+  pub rest : List ℕ
+  pub before : AreTokens end rest 0 bytes tokens
+  pub stops : Stops end rest fault

@@ -22,23 +22,23 @@ impl<'a> Parser<'a> {
     // The word of a function, if one is next: an item and an aggregate begin.
     fn take_function(&mut self) -> Result<Option<Function>, ParseError>
         ensures reads { ReadsFunction (spot_of self.old) (spot_of self.new) result }
-        ensures shorter { length self.new.left.now ≤ length self.old.left.now }
+        ensures shorter { length self.new.rest.now ≤ length self.old.rest.now }
     {
         let Some(function) = self.next_function() else {
             return Ok(None);
         };
         self.count(Part::Item)?;
         self.count(Part::Aggregate)?;
-        self.left = &self.left[1..];
+        self.rest = &self.rest[1..];
         Ok(Some(function))
     }
 
     fn next_function(&self) -> Option<Function>
-        ensures found { IfSome result (λ f. head_of (spot_of self.now).left
+        ensures found { IfSome result (λ f. head_of (spot_of self.now).rest
             ≡ Some (function_symbol f)) }
-        ensures other { IfNone result (NoFunction (spot_of self.now).left) }
+        ensures other { IfNone result (NoFunction (spot_of self.now).rest) }
     {
-        let token = self.left.first()?;
+        let token = self.rest.first()?;
         let offset = token.offset;
         match token.kind {
             Kind::Fold(fold) => Some(Function {
@@ -53,7 +53,7 @@ impl<'a> Parser<'a> {
     // ( expr ), after the word of a function
     fn folded(&mut self, fold: Fold) -> Result<Measure<Name>, ParseError>
         ensures reads { ReadsFolded fold (spot_of self.old) (spot_of self.new) result }
-        ensures shorter { length self.new.left.now ≤ length self.old.left.now }
+        ensures shorter { length self.new.rest.now ≤ length self.old.rest.now }
     {
         self.expect(Sign::Open)?;
         let expression = self.expression(0)?;
@@ -64,7 +64,7 @@ impl<'a> Parser<'a> {
     // ( * ), after `count`
     fn counted(&mut self) -> Result<Measure<Name>, ParseError>
         ensures reads { ReadsCounted (spot_of self.old) (spot_of self.new) result }
-        ensures shorter { length self.new.left.now ≤ length self.old.left.now }
+        ensures shorter { length self.new.rest.now ≤ length self.old.rest.now }
     {
         self.expect(Sign::Open)?;
         self.expect(Sign::Star)?;
@@ -75,7 +75,7 @@ impl<'a> Parser<'a> {
     // agg, after the word of the function
     fn measure(&mut self, function: Function) -> Result<Measure<Name>, ParseError>
         ensures reads { ReadsMeasure function (spot_of self.old) (spot_of self.new) result }
-        ensures shorter { length self.new.left.now ≤ length self.old.left.now }
+        ensures shorter { length self.new.rest.now ≤ length self.old.rest.now }
     {
         match function.fold {
             Some(fold) => self.folded(fold),
@@ -86,7 +86,7 @@ impl<'a> Parser<'a> {
     // [as name]
     fn alias(&mut self) -> Result<Option<Name>, ParseError>
         ensures reads { ReadsAlias (spot_of self.old) (spot_of self.new) result }
-        ensures shorter { length self.new.left.now ≤ length self.old.left.now }
+        ensures shorter { length self.new.rest.now ≤ length self.old.rest.now }
     {
         if self.take(Keyword::As) {
             let name = self.name()?;
@@ -98,7 +98,7 @@ impl<'a> Parser<'a> {
     // agg [as name], after the word of the function
     fn aggregate(&mut self, function: Function) -> Result<Aggregate, ParseError>
         ensures reads { ReadsAggregate function (spot_of self.old) (spot_of self.new) result }
-        ensures shorter { length self.new.left.now ≤ length self.old.left.now }
+        ensures shorter { length self.new.rest.now ≤ length self.old.rest.now }
     {
         let measure = self.measure(function)?;
         let name = self.alias()?;
@@ -112,7 +112,7 @@ impl<'a> Parser<'a> {
     // name | agg [as name]
     pub(crate) fn item(&mut self) -> Result<Item, ParseError>
         ensures reads { ReadsItem (spot_of self.old) (spot_of self.new) result }
-        ensures shorter { length self.new.left.now ≤ length self.old.left.now }
+        ensures shorter { length self.new.rest.now ≤ length self.old.rest.now }
     {
         let function = self.take_function()?;
         match function {
@@ -183,7 +183,7 @@ impl<'a> Parser<'a> {
     // name [asc | desc]
     pub(crate) fn key(&mut self) -> Result<SortKey, ParseError>
         ensures reads { ReadsKey (spot_of self.old) (spot_of self.new) result }
-        ensures shorter { length self.new.left.now ≤ length self.old.left.now }
+        ensures shorter { length self.new.rest.now ≤ length self.old.rest.now }
     {
         let name = self.counted_name(Part::SortKey)?;
         if self.take(Keyword::Desc) {
@@ -220,7 +220,7 @@ impl<'a> Parser<'a> {
         ensures { ReadsEnd (spot_of self.old) (spot_of self.new) result }
     {
         let _semicolon = self.take(Sign::Semicolon);
-        if !self.left.is_empty() {
+        if !self.rest.is_empty() {
             return Err(ParseError::Fault(Fault::Unexpected));
         }
         Ok(())

@@ -17,7 +17,7 @@ impl<'a> Parser<'a> {
     // [-] number | text
     fn literal(&mut self) -> Result<Literal, ParseError>
         ensures reads { ReadsLit (spot_of self.old) (spot_of self.new) result }
-        ensures shorter { length self.new.left.now ≤ length self.old.left.now }
+        ensures shorter { length self.new.rest.now ≤ length self.old.rest.now }
     {
         if self.take(Additive::Minus) {
             let number = self.number()?;
@@ -35,7 +35,7 @@ impl<'a> Parser<'a> {
     fn between(&mut self, column: Name) -> Result<Condition<Test>, ParseError>
         ensures reads { ReadsNamed (λ h. lit_wanted (low h (name_view column))) (spot_of self.old)
             (spot_of self.new) result }
-        ensures shorter { length self.new.left.now ≤ length self.old.left.now }
+        ensures shorter { length self.new.rest.now ≤ length self.old.rest.now }
     {
         let least = self.literal()?;
         self.expect(Keyword::And)?;
@@ -47,7 +47,7 @@ impl<'a> Parser<'a> {
     fn compared(&mut self, column: Name, relation: Relation) -> Result<Condition<Test>, ParseError>
         ensures reads { ReadsNamed (λ h. lit_wanted (compared h (name_view column) relation))
             (spot_of self.old) (spot_of self.new) result }
-        ensures shorter { length self.new.left.now ≤ length self.old.left.now }
+        ensures shorter { length self.new.rest.now ≤ length self.old.rest.now }
     {
         let literal = self.literal()?;
         Ok(Condition::Test(Test::Comparison(Comparison::Compare(column, relation, literal))))
@@ -57,7 +57,7 @@ impl<'a> Parser<'a> {
     fn equal(&mut self, column: Name) -> Result<Condition<Test>, ParseError>
         ensures reads { ReadsNamed (λ h. equal_had h (name_view column)) (spot_of self.old)
             (spot_of self.new) result }
-        ensures shorter { length self.new.left.now ≤ length self.old.left.now }
+        ensures shorter { length self.new.rest.now ≤ length self.old.rest.now }
     {
         if self.is_name() {
             let other = self.name()?;
@@ -70,7 +70,7 @@ impl<'a> Parser<'a> {
     fn related(&mut self, column: Name, relation: Relation) -> Result<Condition<Test>, ParseError>
         ensures reads { ReadsNamed (λ h. behind_relation h (name_view column) relation)
             (spot_of self.old) (spot_of self.new) result }
-        ensures shorter { length self.new.left.now ≤ length self.old.left.now }
+        ensures shorter { length self.new.rest.now ≤ length self.old.rest.now }
     {
         match relation {
             Relation::Equal => self.equal(column),
@@ -82,7 +82,7 @@ impl<'a> Parser<'a> {
     fn compare(&mut self, column: Name) -> Result<Condition<Test>, ParseError>
         ensures reads { ReadsNamed (λ h. unit_named h (name_view column)) (spot_of self.old)
             (spot_of self.new) result }
-        ensures shorter { length self.new.left.now ≤ length self.old.left.now }
+        ensures shorter { length self.new.rest.now ≤ length self.old.rest.now }
     {
         if self.take(Keyword::Between) {
             return self.between(column);
@@ -98,7 +98,7 @@ impl<'a> Parser<'a> {
         requires no_not { No (symbols.keyword Keyword.Not) (spot_of self.old) }
         requires no_open { No (symbols.sign Sign.Open) (spot_of self.old) }
         ensures reads { ReadsNamed unit_wanted (spot_of self.old) (spot_of self.new) result }
-        ensures shorter { length self.new.left.now ≤ length self.old.left.now }
+        ensures shorter { length self.new.rest.now ≤ length self.old.rest.now }
     {
         let column = self.counted_name(Part::Comparison)?;
         self.compare(column)
@@ -109,7 +109,7 @@ impl<'a> Parser<'a> {
     fn unit(&mut self, depth: u32) -> Result<Condition<Test>, ParseError>
         requires { depth ≤ most_nestings }
         ensures reads { ReadsUnit depth (spot_of self.old) (spot_of self.new) result }
-        ensures shorter { length self.new.left.now ≤ length self.old.left.now }
+        ensures shorter { length self.new.rest.now ≤ length self.old.rest.now }
     {
         let negated = self.nest(Keyword::Not, Some(Part::Comparison), depth)?;
         if negated {
@@ -131,7 +131,7 @@ impl<'a> Parser<'a> {
         requires { depth ≤ most_nestings }
         ensures reads { ReadsConj depth (spot_of self.old) (spot_of self.new) result }
         ensures ends { OnOk result (NoAnd (spot_of self.new)) }
-        ensures shorter { length self.new.left.now ≤ length self.old.left.now }
+        ensures shorter { length self.new.rest.now ≤ length self.old.rest.now }
     {
         let mut all = self.unit(depth)?;
         while self.take(Keyword::And) {
@@ -147,7 +147,7 @@ impl<'a> Parser<'a> {
         requires { depth ≤ most_nestings }
         ensures reads { ReadsCond depth (spot_of self.old) (spot_of self.new) result }
         ensures ends { OnOk result (NoLogic (spot_of self.new)) }
-        ensures shorter { length self.new.left.now ≤ length self.old.left.now }
+        ensures shorter { length self.new.rest.now ≤ length self.old.rest.now }
     {
         let mut any = self.conjunction(depth)?;
         while self.take(Keyword::Or) {

@@ -17,7 +17,7 @@ impl<'a> Parser<'a> {
     fn operand(&mut self) -> Result<Expression<Name>, ParseError>
         requires { No (symbols.sign Sign.Open) (spot_of self.old) }
         ensures reads { ReadsOperand (spot_of self.old) (spot_of self.new) result }
-        ensures shorter { length self.new.left.now ≤ length self.old.left.now }
+        ensures shorter { length self.new.rest.now ≤ length self.old.rest.now }
     {
         if self.is_name() {
             let name = self.counted_name(Part::Operand)?;
@@ -36,7 +36,7 @@ impl<'a> Parser<'a> {
     fn factor(&mut self, depth: u32) -> Result<Expression<Name>, ParseError>
         requires { depth ≤ most_nestings }
         ensures reads { ReadsFactor depth (spot_of self.old) (spot_of self.new) result }
-        ensures shorter { length self.new.left.now ≤ length self.old.left.now }
+        ensures shorter { length self.new.rest.now ≤ length self.old.rest.now }
     {
         let opened = self.nest(Sign::Open, None, depth)?;
         if opened {
@@ -53,7 +53,7 @@ impl<'a> Parser<'a> {
         requires { depth ≤ most_nestings }
         ensures reads { ReadsTerm depth (spot_of self.old) (spot_of self.new) result }
         ensures ends { OnOk result (NoTimes (spot_of self.new)) }
-        ensures shorter { length self.new.left.now ≤ length self.old.left.now }
+        ensures shorter { length self.new.rest.now ≤ length self.old.rest.now }
     {
         let mut product = self.factor(depth)?;
         while self.take(Sign::Star) {
@@ -69,7 +69,7 @@ impl<'a> Parser<'a> {
         requires { depth ≤ most_nestings }
         ensures reads { ReadsExpr depth (spot_of self.old) (spot_of self.new) result }
         ensures ends { OnOk result (NoOperator (spot_of self.new)) }
-        ensures shorter { length self.new.left.now ≤ length self.old.left.now }
+        ensures shorter { length self.new.rest.now ≤ length self.old.rest.now }
     {
         let mut sum = self.term(depth)?;
         while let Some(sign) = self.take_any::<Additive>() {

@@ -238,8 +238,8 @@ pub(crate) fn tokens_of(alloc: Global, text: &[u8]) -> Result<Vec<Token<'_>>, Qu
     let mut tokens = Vec::new(alloc);
     let mut offset = 0;
     while offset < text.len() {
-        let (_, left) = text.split_at(offset);
-        match next_piece(left, offset) {
+        let (_, rest) = text.split_at(offset);
+        match next_piece(rest, offset) {
             Piece::Blank => offset += 1,
             Piece::Token(kind, width) => {
                 tokens.push(Token { kind, offset })?;

@@ -20,7 +20,7 @@ pub(crate) trait Listing {
 
     fn read(parser: &mut Parser<'_>) -> Result<Self::Element, ParseError>
         ensures reads { ReadsOne (spot_of parser.old) (spot_of parser.new) result }
-        ensures shorter { length parser.new.left.now ≤ length parser.old.left.now };
+        ensures shorter { length parser.new.rest.now ≤ length parser.old.rest.now };
 
     // What each list has here is proved among the definitions (`specs/Private/Lists.antt`), since
     // an `impl` may name nothing else of its own crate.

@@ -17,29 +17,29 @@ use std::alloc::{AllocError, Global};
 #[derive(Drop)]
 pub(crate) struct Parser<'a> {
     pub(crate) alloc: Global,
-    pub(crate) left: &'a [Token<'a>],
+    pub(crate) rest: &'a [Token<'a>],
     counts: Counts,
 }
 
 impl<'a> Parser<'a> {
     // The next token.
     fn peek(&self) -> Option<Kind<'a>>
-        ensures { result ≡ next_kind self.now.left.now }
+        ensures { result ≡ next_kind self.now.rest.now }
     {
-        self.left.first().map(|token| token.kind)
+        self.rest.first().map(|token| token.kind)
     }
 
     // Which of these is next, if one is.
     fn peek_terminal<T: Terminal>(&self) -> Option<T>
-        ensures found { IfSome result (λ next. head_of (spot_of self.now).left
+        ensures found { IfSome result (λ next. head_of (spot_of self.now).rest
             ≡ Some (T.symbol next)) }
         ensures other { IfNone result ((x : T) → No (T.symbol x) (spot_of self.now)) }
     {
-        T::of(self.left.first()?)
+        T::of(self.rest.first()?)
     }
 
     fn is_next<T: Terminal>(&self, wanted: T) -> bool
-        ensures found { OnTrue result (head_of (spot_of self.now).left ≡ Some (T.symbol wanted)) }
+        ensures found { OnTrue result (head_of (spot_of self.now).rest ≡ Some (T.symbol wanted)) }
         ensures other { OnFalse result (No (T.symbol wanted) (spot_of self.now)) }
     {
         self.peek_terminal() == Some(wanted)
@@ -51,11 +51,11 @@ impl<'a> Parser<'a> {
             (T.symbol wanted) []) }
         ensures other { OnFalse result (No (T.symbol wanted) (spot_of self.old)
             × (spot_of self.new ≡ spot_of self.old)) }
-        ensures shorter { length self.new.left.now ≤ length self.old.left.now }
+        ensures shorter { length self.new.rest.now ≤ length self.old.rest.now }
     {
         let is_next = self.is_next(wanted);
         if is_next {
-            self.left = &self.left[1..];
+            self.rest = &self.rest[1..];
         }
         is_next
     }
@@ -66,17 +66,17 @@ impl<'a> Parser<'a> {
             (T.symbol next) []) }
         ensures other { IfNone result (((x : T) → No (T.symbol x) (spot_of self.old))
             × (spot_of self.new ≡ spot_of self.old)) }
-        ensures shorter { length self.new.left.now ≤ length self.old.left.now }
+        ensures shorter { length self.new.rest.now ≤ length self.old.rest.now }
     {
         let next = self.peek_terminal()?;
-        self.left = &self.left[1..];
+        self.rest = &self.rest[1..];
         Some(next)
     }
 
     // Goes past this, which has to be next.
     pub(crate) fn expect<T: Terminal>(&mut self, wanted: T) -> Result<(), ParseError>
         ensures reads { Expects (T.symbol wanted) (spot_of self.old) (spot_of self.new) result }
-        ensures shorter { length self.new.left.now ≤ length self.old.left.now }
+        ensures shorter { length self.new.rest.now ≤ length self.old.rest.now }
     {
         if self.take(wanted) {
             Ok(())
@@ -97,15 +97,15 @@ impl<'a> Parser<'a> {
     }
 
     pub(crate) fn is_name(&self) -> bool
-        ensures found { OnTrue result (IsName (spot_of self.now).left) }
-        ensures other { OnFalse result (NoName (spot_of self.now).left) }
+        ensures found { OnTrue result (IsName (spot_of self.now).rest) }
+        ensures other { OnFalse result (NoName (spot_of self.now).rest) }
     {
         matches!(self.peek(), Some(Kind::Name(_)))
     }
 
     pub(crate) fn is_number(&self) -> bool
-        ensures found { OnTrue result (IsNumber (spot_of self.now).left) }
-        ensures other { OnFalse result (NoNumber (spot_of self.now).left) }
+        ensures found { OnTrue result (IsNumber (spot_of self.now).rest) }
+        ensures other { OnFalse result (NoNumber (spot_of self.now).rest) }
     {
         matches!(self.peek(), Some(Kind::Number(_)))
     }
@@ -114,7 +114,7 @@ impl<'a> Parser<'a> {
     #[tactic(auto, using(crate::proofs::Counting::long_word))]
     pub(crate) fn name(&mut self) -> Result<Name, ParseError>
         ensures reads { ReadsName [] (spot_of self.old) (spot_of self.new) result }
-        ensures shorter { length self.new.left.now ≤ length self.old.left.now }
+        ensures shorter { length self.new.rest.now ≤ length self.old.rest.now }
     {
         let Some(Kind::Name(word)) = self.peek() else {
             return Err(ParseError::Fault(Fault::Unexpected));
@@ -123,27 +123,27 @@ impl<'a> Parser<'a> {
             return Err(ParseError::Fault(Fault::TooMany));
         }
         let text = word.to_ascii_lowercase(self.alloc)?;
-        let offset = self.left[0].offset;
-        self.left = &self.left[1..];
+        let offset = self.rest[0].offset;
+        self.rest = &self.rest[1..];
         Ok(Name { text, offset })
     }
 
     // A number.
     pub(crate) fn number(&mut self) -> Result<Digits, ParseError>
         ensures reads { ReadsNumber [] (spot_of self.old) (spot_of self.new) result }
-        ensures shorter { length self.new.left.now ≤ length self.old.left.now }
+        ensures shorter { length self.new.rest.now ≤ length self.old.rest.now }
     {
         let Some(Kind::Number(digits)) = self.peek() else {
             return Err(ParseError::Fault(Fault::Unexpected));
         };
-        self.left = &self.left[1..];
+        self.rest = &self.rest[1..];
         Ok(digits)
     }
 
     // A name at which a part begins.
     pub(crate) fn counted_name(&mut self, part: Part) -> Result<Name, ParseError>
         ensures reads { ReadsName (part ∷ []) (spot_of self.old) (spot_of self.new) result }
-        ensures shorter { length self.new.left.now ≤ length self.old.left.now }
+        ensures shorter { length self.new.rest.now ≤ length self.old.rest.now }
     {
         if !self.is_name() {
             return Err(ParseError::Fault(Fault::Unexpected));
@@ -155,7 +155,7 @@ impl<'a> Parser<'a> {
     // A number at which a part begins.
     pub(crate) fn counted_number(&mut self, part: Part) -> Result<Digits, ParseError>
         ensures reads { ReadsNumber (part ∷ []) (spot_of self.old) (spot_of self.new) result }
-        ensures shorter { length self.new.left.now ≤ length self.old.left.now }
+        ensures shorter { length self.new.rest.now ≤ length self.old.rest.now }
     {
         if !self.is_number() {
             return Err(ParseError::Fault(Fault::Unexpected));
@@ -167,13 +167,13 @@ impl<'a> Parser<'a> {
     // What a text says.
     pub(crate) fn text(&mut self) -> Result<Vec<u8>, ParseError>
         ensures reads { ReadsText (spot_of self.old) (spot_of self.new) result }
-        ensures shorter { length self.new.left.now ≤ length self.old.left.now }
+        ensures shorter { length self.new.rest.now ≤ length self.old.rest.now }
     {
         let Some(Kind::Text(inside)) = self.peek() else {
             return Err(ParseError::Fault(Fault::Unexpected));
         };
         let text = unquoted(self.alloc, inside)?;
-        self.left = &self.left[1..];
+        self.rest = &self.rest[1..];
         Ok(text)
     }
 
@@ -186,7 +186,7 @@ impl<'a> Parser<'a> {
     ) -> Result<bool, ParseError>
         ensures reads { Nests (T.symbol opening) (option_to_list part) depth (spot_of self.old)
             (spot_of self.new) result }
-        ensures shorter { length self.new.left.now ≤ length self.old.left.now }
+        ensures shorter { length self.new.rest.now ≤ length self.old.rest.now }
     {
         if !self.is_next(opening) {
             return Ok(false);
@@ -197,7 +197,7 @@ impl<'a> Parser<'a> {
         if let Some(part) = part {
             self.count(part)?;
         }
-        self.left = &self.left[1..];
+        self.rest = &self.rest[1..];
         Ok(true)
     }
 }
@@ -233,14 +233,14 @@ pub(crate) fn parse_tokens(
 {
     let mut parser = Parser {
         alloc,
-        left: tokens,
+        rest: tokens,
         counts: Counts::new(),
     };
     let read = parser.query();
     match read {
         Ok(tree) => Ok(tree),
         Err(error) => {
-            let passed = count_passed(tokens, parser.left);
+            let passed = count_passed(tokens, parser.rest);
             let at = offset_at(tokens, passed, end);
             Err(fault_of(error, at))
         }
@@ -259,10 +259,10 @@ fn fault_of(error: ParseError, at: usize) -> QueryFault
     }
 }
 
-fn count_passed(tokens: &[Token<'_>], left: &[Token<'_>]) -> usize
-    ensures { result ≡ length tokens.now - length left.now }
+fn count_passed(tokens: &[Token<'_>], rest: &[Token<'_>]) -> usize
+    ensures { result ≡ length tokens.now - length rest.now }
 {
-    tokens.len().saturating_sub(left.len())
+    tokens.len().saturating_sub(rest.len())
 }
 
 // The position at which the tokens after the first `passed` begin.

@@ -62,10 +62,10 @@ filter_fact false q [] = refl
 filter_fact false q (x ∷ xs) = filter_fact false q xs
 
 -- what the elements give that pass a test
-given_kept : {X Y : Type 0} (p : X → Bool) (f : X → List Y) (xs : List X)
+given_filtered : {X Y : Type 0} (p : X → Bool) (f : X → List Y) (xs : List X)
     → flat_map (λ x. cond (p x) (f x) []) xs ≡ flat_map f (filter p xs)
-given_kept p f [] = refl
-given_kept p f (x ∷ xs) = grind (arith, given_kept p f xs)
+given_filtered p f [] = refl
+given_filtered p f (x ∷ xs) = grind (arith, given_filtered p f xs)
 
 given_same : {X Y : Type 0} (f g : X → List Y) (xs : List X) → ((x : X) → f x ≡ g x)
     → flat_map f xs ≡ flat_map g xs
@@ -179,16 +179,16 @@ abbrev Keeps : List TableId → Joined → Joined → Type 0
 Keeps tables row choice = (u : TableId) → is_among u tables ≡ false → choice u ≡ row u
 
 module _ (ts : Tables) where
-  kept : (tables : List TableId) (row : Joined)
+  choices_keep : (tables : List TableId) (row : Joined)
       → AllByRecursion (Keeps tables row) (with_choices ts tables row)
-  kept [] row = ((λ u e. refl), tt)
-  kept (t ∷ more) row =
+  choices_keep [] row = ((λ u e. refl), tt)
+  choices_keep (t ∷ more) row =
       every_given (Keeps (t ∷ more) row) (λ chosen. with_choices ts more (with_row row t chosen))
       (ts t)
       (λ chosen. every (Keeps more (with_row row t chosen)) (Keeps (t ∷ more) row)
       (λ choice keeps u e. (let parts = or_parts (is_table u t) (is_among u more) e in
       keeps u parts.1 ∙ ap (λ b. if b then chosen else row u) parts.0))
-      (with_choices ts more (with_row row t chosen)) (kept more (with_row row t chosen)))
+      (with_choices ts more (with_row row t chosen)) (choices_keep more (with_row row t chosen)))
 
   -- a join asks of each choice what it asks of the row and the dimension's row
   asked : (j : Join) (js : List Join) (row : Joined) (d : Row) (choice : Joined) → IsStar (j ∷ js)
@@ -211,7 +211,7 @@ module _ (ts : Tables) where
       (λ r. all_joined (j ∷ js) r ≡ (matches row j d && all_joined js r))
       (λ r keeps. ap (λ b. b && all_joined js r) (asked j js row d r star keeps))
       (with_choices ts (dimensions_of js) (with_row row t d))
-      (kept (dimensions_of js) (with_row row t d)))
+      (choices_keep (dimensions_of js) (with_row row t d)))
       ∙ filter_fact (matches row j d) (all_joined js)
       (with_choices ts (dimensions_of js) (with_row row t d))
       ∙ ap (λ l. cond (matches row j d) l []) (joined_choices js star.3 (with_row row t d))) in
@@ -220,7 +220,7 @@ module _ (ts : Tables) where
       ∙ given_same (λ d. filter (all_joined (j ∷ js))
       (with_choices ts (dimensions_of js) (with_row row t d)))
       (λ d. cond (matches row j d) (partners ts js (with_row row t d)) []) (ts t) one
-      ∙ given_kept (matches row j) (λ d. partners ts js (with_row row t d)) (ts t)
+      ∙ given_filtered (matches row j) (λ d. partners ts js (with_row row t d)) (ts t)
 
   -- where lineorder stands first, and then the dimensions in the order of the joins, these are the
   -- joined rows, and in their order

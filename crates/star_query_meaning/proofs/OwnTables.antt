@@ -70,18 +70,18 @@ same_tables (x ∷ xs) ys a b same =
 
 -- ---- the names of FROM
 
-names_tell : (t u : TableId) → pointwise nat_eq (table_name u) (table_name t) ≡ is_table t u
+same_names : (t u : TableId) → pointwise nat_eq (table_name u) (table_name t) ≡ is_table t u
 unfolding table_name
-names_tell Date Date = refl
-names_tell Date _ = refl
-names_tell Customer Date = refl
-names_tell Customer _ = refl
-names_tell Supplier Date = refl
-names_tell Supplier _ = refl
-names_tell Part Date = refl
-names_tell Part _ = refl
-names_tell Lineorder Date = refl
-names_tell Lineorder _ = refl
+same_names Date Date = refl
+same_names Date _ = refl
+same_names Customer Date = refl
+same_names Customer _ = refl
+same_names Supplier Date = refl
+same_names Supplier _ = refl
+same_names Part Date = refl
+same_names Part _ = refl
+same_names Lineorder Date = refl
+same_names Lineorder _ = refl
 
 -- what a name stands for has this name
 table_named : (n : Name) (u : TableId) → table_at n ≡ Some u → table_name u ≡ n.text
@@ -98,7 +98,7 @@ among_named [] t all = refl
 among_named (n ∷ ns) t all =
     let u = all.0.0 in
     let here : is_table t u ≡ pointwise nat_eq n.text (table_name t) =
-    sym (names_tell t u) ∙ ap (λ text. pointwise nat_eq text (table_name t))
+    sym (same_names t u) ∙ ap (λ text. pointwise nat_eq text (table_name t))
     (table_named n u all.0.1) in
     (λ i. is_among t (option_to_list (all.0.1 i) ++ tables_of ns))
     ∙ (λ i. here i || among_named ns t all.1 i)
@@ -118,7 +118,7 @@ not_again n u (m ∷ ms) e all others =
         let texts : same_name n m ≡ pointwise nat_eq (table_name u) (table_name u) =
         λ i. pointwise nat_eq (sym (table_named n u e) i)
         ((sym (table_named m v all.0.1) ∙ ap table_name (sym (table_same u v h))) i) in
-        absurd (true≢false (sym (texts ∙ names_tell u u ∙ table_itself u) ∙ others.0))
+        absurd (true≢false (sym (texts ∙ same_names u u ∙ table_itself u) ∙ others.0))
 
 pub named_apart : (names : List Name) → AreTables names → IsDistinct same_name names
     → AreApart (tables_of names)

@@ -2,7 +2,7 @@
 use Rattle.std.{proofs.Common.{◌≡◌, ◌∙◌, ℕ, ◌+◌, true, arith, get_or, List, [], ◌∷◌, ◌++◌, length, map, sym, ap, subst}, specs.Prelude.filter, specs.List.AllByRecursion, specs.List.Sorted.IsPermutation, proofs.lemmas.List.Sorted.{IsPermutation-map, IsPermutation-sym}}
 use Rattle.star_schema.specs.{declared.table.TableId.TheVariants.Lineorder, Groups.AreGroups, Groups.Entry, Groups.GroupRow, Order.AreInOrder, Order.value_cmp, Schema.table_of, Tables.Value}
 use Rattle.star_query.specs.Tree.{Tree}
-use Rattle.star_plan.{specs.Joins.{joins_of, where_pairs}, specs.Meaning.{Plan, Tables, all_hold, joined_rows}, specs.Names.column_at, specs.Resolved.IsResolved, specs.Uses.where_uses, specs.Private.Stages.{groups_uses, items_uses}, specs.WellNamed.{IsWellNamed, is_in_from}, proofs.Conditions.no_fault, proofs.Known.{each_left, each_right}, proofs.KeptCounts.all_counted, proofs.KeptJoins.where_foreign, proofs.Whole.parts}
+use Rattle.star_plan.{specs.Joins.{joins_of, where_pairs}, specs.Meaning.{Plan, Tables, all_hold, joined_rows}, specs.Names.column_at, specs.Resolved.IsResolved, specs.Uses.where_uses, specs.Private.Stages.{groups_uses, items_uses}, specs.WellNamed.{IsWellNamed, is_in_from}, proofs.Conditions.no_fault, proofs.Known.{each_left, each_right}, proofs.PreservedCounts.all_counted, proofs.PreservedJoins.where_foreign, proofs.Whole.parts}
 use Rattle.star_plan.specs.Meaning as plan
 use Rattle.star_program.specs.{declared.outcome.Cell.Cell, RowCells.cell_of}
 use Rattle.star_query_meaning.{specs.Answers.{IsAnswer, IsPlanAnswer, shown_name}, specs.Shows.{item_columns, item_names, sorts_of}, specs.Rows.{query_entry, measures_of, product, selected, tables_of}, proofs.Choices.{IsStar, all_joined, dimensions_apart, dimensions_of, filter_both, is_star, joined_product, no_fact_among, product_reordered}, proofs.GroupOrders.groups_reordered, proofs.OwnConditions.where_same, proofs.OwnTables.{from_tables, named_apart, where_named}, proofs.Reorderings.filter_reordered, proofs.OwnShows.{columns_same, functions_same, keys_same, names_same, sorts_same, values_same}}
@@ -28,7 +28,7 @@ module _ (ts : Tables) (t : Tree) (p : Plan) (named : IsWellNamed t)
       let choices : IsPermutation (product ts from) (product ts (Lineorder ∷ dimensions_of js)) =
       product_reordered ts from (Lineorder ∷ dimensions_of js)
       (named_apart t.tables named.tables named.tables_once) tables in
-      let kept : IsPermutation (filter (all_hold cs) (filter (all_joined js) (product ts from)))
+      let permuted : IsPermutation (filter (all_hold cs) (filter (all_joined js) (product ts from)))
       (filter (all_hold cs) (filter (all_joined js)
       (product ts (Lineorder ∷ dimensions_of js)))) =
       filter_reordered (all_hold cs) (filter (all_joined js) (product ts from))
@@ -45,7 +45,7 @@ module _ (ts : Tables) (t : Tree) (p : Plan) (named : IsWellNamed t)
       ∙ ap (λ qs. filter (all_hold cs) (joined_rows ts qs)) (sym resolved.joins) in
       subst (λ rows. IsPermutation rows (plan.plan_rows ts p)) (sym left)
       (subst (IsPermutation (filter (all_hold cs) (filter (all_joined js) (product ts from))))
-      right kept)
+      right permuted)
 
   -- where FROM names lineorder first, and then the dimensions in the order of their joins, they
   -- come in the plan's order

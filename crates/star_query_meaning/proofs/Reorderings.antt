@@ -39,18 +39,18 @@ module _ {X : Type 0} (R : List X → List X → Type 0) (same : (xs : List X) �
 -- ---- what passes a test
 
 module _ {X : Type 0} (p : X → Bool) where
-  kept_under : (x : X) (xs ys : List X) → IsPermutation (filter p xs) (filter p ys)
+  filtered_under : (x : X) (xs ys : List X) → IsPermutation (filter p xs) (filter p ys)
       → IsPermutation (filter p (x ∷ xs)) (filter p (x ∷ ys))
-  kept_under x xs ys h = by (p x)
+  filtered_under x xs ys h = by (p x)
     where
       by : (b : Bool) → IsPermutation (cond b (x ∷ filter p xs) (filter p xs))
           (cond b (x ∷ filter p ys) (filter p ys))
       by true = IsPermutation-cons x (filter p xs) (filter p ys) h
       by false = h
 
-  kept_turned : (x y : X) (xs : List X)
+  filtered_turned : (x y : X) (xs : List X)
       → IsPermutation (filter p (x ∷ y ∷ xs)) (filter p (y ∷ x ∷ xs))
-  kept_turned x y xs = by (p x) (p y)
+  filtered_turned x y xs = by (p x) (p y)
     where
       by : (a b : Bool) → IsPermutation
           (cond a (x ∷ cond b (y ∷ filter p xs) (filter p xs))
@@ -66,8 +66,8 @@ module _ {X : Type 0} (p : X → Bool) where
       → IsPermutation (filter p xs) (filter p ys)
   filter_reordered = reordered (λ xs ys. IsPermutation (filter p xs) (filter p ys))
       (λ xs. IsPermutation-refl (filter p xs))
-      (λ xs ys zs a b. IsPermutation-trans (filter p xs) (filter p ys) (filter p zs) a b) kept_under
-      kept_turned
+      (λ xs ys zs a b. IsPermutation-trans (filter p xs) (filter p ys) (filter p zs) a b)
+      filtered_under filtered_turned
 
 -- ---- what each element gives
 

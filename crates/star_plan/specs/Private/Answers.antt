@@ -7,9 +7,9 @@ use Rattle.star_query.specs.{declared.tree.Comparison.Comparison, Tree.Item, Tre
 use Rattle.star_query.specs.declared.tree.Condition as of_query
 
 -- the error is the fault that there is, or out of memory
-abbrev pub Tells : {X : Type 0} → Option PlanFault → Result X PlanFault → Type 0
-Tells fault (Ok x) = fault ≡ None
-Tells fault (Err e) = UnlessMemory OutOfMemory e (fault ≡ Some e)
+abbrev pub Reports : {X : Type 0} → Option PlanFault → Result X PlanFault → Type 0
+Reports fault (Ok x) = fault ≡ None
+Reports fault (Err e) = UnlessMemory OutOfMemory e (fault ≡ Some e)
 
 -- the result, as it is shown, is the expected one
 abbrev pub Resolves : {X A F : Type 0} → (X → A) → Option A → Result X F → Type 0

@@ -30,9 +30,9 @@ function_parts = part.Item ∷ part.Aggregate ∷ []
 
 abbrev pub ReadsFunction : Spot → Spot → Result (Option Function) ParseError → Type 0
 ReadsFunction old new (Ok (Some f)) = Takes old new (function_symbol f) function_parts
-ReadsFunction old new (Ok None) = NoFunction old.left × (new ≡ old)
-ReadsFunction old new (Err (errors.Fault TooMany)) = IsBeyond function_parts old.counts old.left
-    × IsFunction old.left × (new.left ≡ old.left)
+ReadsFunction old new (Ok None) = NoFunction old.rest × (new ≡ old)
+ReadsFunction old new (Err (errors.Fault TooMany)) = IsBeyond function_parts old.counts old.rest
+    × IsFunction old.rest × (new.rest ≡ old.rest)
 ReadsFunction old new (Err e) = ⊥
 
 -- the word of a function was read

@@ -393,17 +393,17 @@ is_long x = false
 
 -- a symbol within the limits, after these counts
 abbrev pub checked : Counts → Mark → List Symbol → (Counts → Verdict) → Verdict
-checked n m left go =
+checked n m rest go =
     if nat_lt most_nestings m.depth
-    then Bad TooDeep left
+    then Bad TooDeep rest
     else if is_over (plus n m.parts) m.parts || is_long m.symbol
-    then Bad TooMany left
+    then Bad TooMany rest
     else go (plus n m.parts)
 
 abbrev pub verdict_after : Option Step → Counts → List Symbol → (ParserState → Counts → Verdict)
     → Verdict
-verdict_after None n left go = Bad Unexpected left
-verdict_after (Some x) n left go = checked n x.at left (go x.next)
+verdict_after None n rest go = Bad Unexpected rest
+verdict_after (Some x) n rest go = checked n x.at rest (go x.next)
 
 abbrev pub ends : Option Query → Verdict
 ends None = Bad Unexpected []

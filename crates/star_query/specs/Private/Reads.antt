@@ -7,12 +7,12 @@ use Rattle.star_query.specs.declared.fault.ParseError.TheVariants as errors
 
 -- the parser's position: the remaining tokens, and how much was counted
 pub record Spot : Type 0 where
-  pub left : List Symbol
+  pub rest : List Symbol
   pub counts : Counts
 
 abbrev pub spot_of : Parser → Spot
 spot_of parser = record {
-  left = map (λ t. symbol_of t.kind t.offset) parser.left.now;
+  rest = map (λ t. symbol_of t.kind t.offset) parser.rest.now;
   counts =
       parser.counts;
 }
@@ -28,20 +28,20 @@ next_kind (t ∷ ts) = Some t.kind
 
 -- this symbol isn't next
 abbrev pub No : Symbol → Spot → Type 0
-No x spot = head_of spot.left ≡ Some x → ⊥
+No x spot = head_of spot.rest ≡ Some x → ⊥
 
 -- the machine's verdict from a spot
 abbrev pub verdict : Spot → ParserState → Verdict
-verdict spot from = run spot.left from spot.counts
+verdict spot from = run spot.rest from spot.counts
 
 -- the machine ends with this fault here
 abbrev pub EndsBad : ParseError → Spot → Verdict → Type 0
 EndsBad errors.OutOfMemory new v = Unit {0}
-EndsBad (errors.Fault f) new v = v ≡ Bad f new.left
+EndsBad (errors.Fault f) new v = v ≡ Bad f new.rest
 
 -- a symbol is passed at which these parts begin, within the limits
 pub record Takes (old new : Spot) (x : Symbol) (ps : List Part) : Type 0 where
-  pub next : old.left ≡ x ∷ new.left
+  pub next : old.rest ≡ x ∷ new.rest
   pub counts : new.counts ≡ plus old.counts ps
   pub few : is_over (plus old.counts ps) ps ≡ false
   pub short : is_long x ≡ false
@@ -91,11 +91,11 @@ abbrev pub ReadsToken : {A : Type 0} → (A → Symbol) → (NoMemory : Type 0)
     → (Is IsNo : List Symbol → Type 0) → List Part → Spot → Spot → Result A ParseError → Type 0
 ReadsToken symbol NoMemory Is IsNo ps old new (Ok x) = Takes old new (symbol x) ps
 ReadsToken symbol NoMemory Is IsNo ps old new (Err errors.OutOfMemory) = NoMemory
-ReadsToken symbol NoMemory Is IsNo ps old new (Err (errors.Fault Unexpected)) = IsNo old.left
+ReadsToken symbol NoMemory Is IsNo ps old new (Err (errors.Fault Unexpected)) = IsNo old.rest
     × (new ≡ old)
 ReadsToken symbol NoMemory Is IsNo ps old new (Err (errors.Fault TooDeep)) = ⊥
 ReadsToken symbol NoMemory Is IsNo ps old new (Err (errors.Fault TooMany)) =
-    IsBeyond ps old.counts old.left × (new.left ≡ old.left) × Is old.left
+    IsBeyond ps old.counts old.rest × (new.rest ≡ old.rest) × Is old.rest
 
 abbrev pub ReadsName : List Part → Spot → Spot → Result Name ParseError → Type 0
 ReadsName = ReadsToken (λ n. ident (name_view n)) (Unit {0}) IsName NoName
@@ -106,7 +106,7 @@ ReadsNumber = ReadsToken (λ digits. number digits.value) ⊥ IsNumber NoNumber
 abbrev pub ReadsText : Spot → Spot → Result (Vec ℕ Global) ParseError → Type 0
 ReadsText old new (Ok v) = Takes old new (text v.items) []
 ReadsText old new (Err errors.OutOfMemory) = Unit {0}
-ReadsText old new (Err (errors.Fault Unexpected)) = NoText old.left × (new ≡ old)
+ReadsText old new (Err (errors.Fault Unexpected)) = NoText old.rest × (new ≡ old)
 ReadsText old new (Err (errors.Fault f)) = ⊥
 
 -- a nesting, if it is opened by this symbol, at which these parts begin
@@ -116,9 +116,9 @@ Nests x ps d old new (Ok false) = No x old × (new ≡ old)
 Nests x ps d old new (Err errors.OutOfMemory) = ⊥
 Nests x ps d old new (Err (errors.Fault Unexpected)) = ⊥
 Nests x ps d old new (Err (errors.Fault TooDeep)) = (most_nestings ≤ d)
-    × (head_of old.left ≡ Some x) × (new ≡ old)
+    × (head_of old.rest ≡ Some x) × (new ≡ old)
 Nests x ps d old new (Err (errors.Fault TooMany)) = (d < most_nestings)
-    × (head_of old.left ≡ Some x) × IsBeyond ps old.counts old.left × (new ≡ old)
+    × (head_of old.rest ≡ Some x) × IsBeyond ps old.counts old.rest × (new ≡ old)
 
 -- a phrase is read wherever one may be, or the machine ends with the fault
 abbrev pub ReadsPhrase : {A T P H : Type 0} → (A → T) → (P → T) → (H → Type 0) → (H → ParserState)

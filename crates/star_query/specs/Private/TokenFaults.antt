@@ -6,18 +6,18 @@ use Rattle.star_query.specs.declared.fault.ParseError.TheVariants as errors
 use Rattle.star_query.specs.declared.fault.QueryFault.TheVariants as faults
 
 -- the tokens have this first fault, before these remaining ones
-pub record TokensStopAt (tokens : List Placed) (fault : Fault) (left : List Placed) : Type 0 where
+pub record TokensStopAt (tokens : List Placed) (fault : Fault) (rest : List Placed) : Type 0 where
   pub front : List Placed
-  pub cut : tokens ≡ front ++ left
-  pub first : FirstQueryFault (symbols tokens) fault (symbols left)
+  pub cut : tokens ≡ front ++ rest
+  pub first : FirstQueryFault (symbols tokens) fault (symbols rest)
 
 -- the fault of tokens whose text has this length; out of memory may come before it
 abbrev pub IsTokenFault : List Placed → ℕ → QueryFault → Type 0
 IsTokenFault tokens end faults.OutOfMemory = Unit {0}
-IsTokenFault tokens end (faults.Unexpected offset) = (left : List Placed)
-    × TokensStopAt tokens Unexpected left × (offset ≡ first_offset left end)
-IsTokenFault tokens end faults.TooDeep = (left : List Placed) × TokensStopAt tokens TooDeep left
-IsTokenFault tokens end faults.TooMany = (left : List Placed) × TokensStopAt tokens TooMany left
+IsTokenFault tokens end (faults.Unexpected offset) = (rest : List Placed)
+    × TokensStopAt tokens Unexpected rest × (offset ≡ first_offset rest end)
+IsTokenFault tokens end faults.TooDeep = (rest : List Placed) × TokensStopAt tokens TooDeep rest
+IsTokenFault tokens end faults.TooMany = (rest : List Placed) × TokensStopAt tokens TooMany rest
 IsTokenFault tokens end _ = ⊥
 
 -- a fault, with its position if it has one

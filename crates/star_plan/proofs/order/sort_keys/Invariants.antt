@@ -5,8 +5,8 @@ use Rattle.star_plan.proofs.order.sort_keys.Given as goal
 
 abbrev pub invariant-loop-key : goal.invariant-loop-key
 invariant-loop-key l = record {
-  told : AnswerSoFar sort_key_view (key_fault (map name_view l.groups) (names_view l.aggregates))
-      l.keys l.key-index;
+  reported : AnswerSoFar sort_key_view
+      (key_fault (map name_view l.groups) (names_view l.aggregates)) l.keys l.key-index;
   sorted :
       with_rest l.sorts.items (option_all
       (resolved_key (map name_view l.groups) (names_view l.aggregates))

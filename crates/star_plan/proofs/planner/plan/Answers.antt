@@ -9,11 +9,11 @@ invariant_of-result c =
     (record {
       tree = tree_view c.tree-query.result.now;
       meant = c.tree-query.ensures.meant;
-      named = well_named (tree_view c.tree-query.result.now) c.in_ok-tree.ensures.told;
+      named = well_named (tree_view c.tree-query.result.now) c.in_ok-tree.ensures.reported;
       resolved = c.in_ok-tree.ensures.resolved;
     })
 
 pub returns-clause-named : goal.returns-clause-named
 returns-clause-named c =
     subst (λ t. IsWellNamed (tree_view t)) c.tree-query.ensures.lent
-    (well_named (tree_view c.tree-query.result.now) c.in_ok-tree.ensures.told)
+    (well_named (tree_view c.tree-query.result.now) c.in_ok-tree.ensures.reported)

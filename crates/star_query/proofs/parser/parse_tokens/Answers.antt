@@ -14,13 +14,13 @@ returns-in-Ok-clause-only c =
 pub returns-in-Err-clause-only : goal.returns-in-Err-clause-only
 returns-in-Err-clause-only c =
     λ t d. rw c.fault_of.ensures
-    (error_no_tree c.args.tokens.now c.query-read.new.self.left.now c.new.result
+    (error_no_tree c.args.tokens.now c.query-read.new.self.rest.now c.new.result
     c.query-read.new.self.counts c.in-Err.error c.offset_at-at.result t c.new.ensures
     c.in-Err.ensures d)
 
 pub returns-in-Err-clause-fault : goal.returns-in-Err-clause-fault
 returns-in-Err-clause-fault c =
-    rw c.fault_of.ensures (error_fault c.args.tokens.now c.query-read.new.self.left.now c.new.result
+    rw c.fault_of.ensures (error_fault c.args.tokens.now c.query-read.new.self.rest.now c.new.result
     c.query-read.new.self.counts c.in-Err.error c.offset_at-at.result c.args.end
     c.count_passed-passed.result c.new.ensures c.in-Err.ensures c.count_passed-passed.ensures
     c.offset_at-at.ensures)

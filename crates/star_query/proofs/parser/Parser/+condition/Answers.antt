@@ -23,19 +23,19 @@ condition-loop-self-init t c =
 
 pub conjunction-loop-self-preserved : goal.conjunction-loop-self-preserved
 conjunction-loop-self-preserved t c =
-    let left = shorter c.loop-self.self c.take.new.self _ _ c.loop-self-test.ensures.taken in
+    let rest = shorter c.loop-self.self c.take.new.self _ _ c.loop-self-test.ensures.taken in
     record {
       reads = one_more_unit (λ h. verdict (spot_of c.args.self.now) (unit_wanted (first_unit h)))
           (spot_of c.loop-self.self) (spot_of c.take.new.self)
           (spot_of c.unit-in-loop-self.new.self) c.args.depth c.loop-self.all c.in_ok-next.next
           c.in_ok-all-2.all c.loop-self.invariant.reads c.loop-self-test.ensures.taken c.requires
           c.in_ok-all-2.ensures c.in_ok-next.ensures.reads;
-      shorter = omega (arith, left, c.in_ok-next.ensures.shorter, c.loop-self.invariant.shorter);
+      shorter = omega (arith, rest, c.in_ok-next.ensures.shorter, c.loop-self.invariant.shorter);
     }
 
 pub condition-loop-self-preserved : goal.condition-loop-self-preserved
 condition-loop-self-preserved t c =
-    let left = shorter c.loop-self.self c.take.new.self _ _ c.loop-self-test.ensures.taken in
+    let rest = shorter c.loop-self.self c.take.new.self _ _ c.loop-self-test.ensures.taken in
     record {
       reads = one_more_conj (λ h.
           verdict (spot_of c.args.self.now) (unit_wanted (first_unit (first_conj h))))
@@ -45,7 +45,7 @@ condition-loop-self-preserved t c =
           c.loop-self-test.ensures.taken c.requires c.in_ok-any-2.ensures
           c.in_ok-next.ensures.reads;
       ends = c.in_ok-next.ensures.ends;
-      shorter = omega (arith, left, c.in_ok-next.ensures.shorter, c.loop-self.invariant.shorter);
+      shorter = omega (arith, rest, c.in_ok-next.ensures.shorter, c.loop-self.invariant.shorter);
     }
 
 pub unit-returns-then-negated-clause-reads : goal.unit-returns-then-negated-clause-reads

@@ -16,11 +16,11 @@ abbrev pub invariant-conjunction-loop-self : goal.invariant-conjunction-loop-sel
 invariant-conjunction-loop-self l =
     record {
       reads : ReadsConj l.depth (spot_of l.fn.self) (spot_of l.self) (Ok l.all);
-      shorter : length l.self.left.now ≤ length l.fn.self.left.now;
+      shorter : length l.self.rest.now ≤ length l.fn.self.rest.now;
     }
 
 abbrev pub decreases-conjunction-loop-self : goal.decreases-conjunction-loop-self
-decreases-conjunction-loop-self l = length l.self.left.now
+decreases-conjunction-loop-self l = length l.self.rest.now
 
 -- the conjunctions so far are a condition
 abbrev pub invariant-condition-loop-self : goal.invariant-condition-loop-self
@@ -28,8 +28,8 @@ invariant-condition-loop-self l =
     record {
       reads : ReadsCond l.depth (spot_of l.fn.self) (spot_of l.self) (Ok l.any);
       ends : NoAnd (spot_of l.self);
-      shorter : length l.self.left.now ≤ length l.fn.self.left.now;
+      shorter : length l.self.rest.now ≤ length l.fn.self.rest.now;
     }
 
 abbrev pub decreases-condition-loop-self : goal.decreases-condition-loop-self
-decreases-condition-loop-self l = length l.self.left.now
+decreases-condition-loop-self l = length l.self.rest.now

@@ -23,7 +23,7 @@ term-loop-self-init t c =
 
 pub expression-loop-sign-preserved : goal.expression-loop-sign-preserved
 expression-loop-sign-preserved t c =
-    let left = shorter c.loop-sign.self c.take_any.new.self _ _ c.in-Some.ensures.taken in
+    let rest = shorter c.loop-sign.self c.take_any.new.self _ _ c.in-Some.ensures.taken in
     record {
       reads = one_more_term (λ h.
           verdict (spot_of c.args.self.now) (factor_wanted (first_factor (first_term h))))
@@ -32,7 +32,7 @@ expression-loop-sign-preserved t c =
           c.loop-sign.invariant.reads c.in-Some.ensures.taken c.requires c.in_ok-sum-2.ensures
           c.in_ok-next.ensures.reads;
       ends = c.in_ok-next.ensures.ends;
-      shorter = omega (arith, left, c.in_ok-next.ensures.shorter, c.loop-sign.invariant.shorter);
+      shorter = omega (arith, rest, c.in_ok-next.ensures.shorter, c.loop-sign.invariant.shorter);
     }
 
 pub factor-returns-then-opened-clause-reads : goal.factor-returns-then-opened-clause-reads
@@ -45,7 +45,7 @@ factor-returns-then-opened-clause-reads t c =
 
 pub term-loop-self-preserved : goal.term-loop-self-preserved
 term-loop-self-preserved t c =
-    let left = shorter c.loop-self.self c.take.new.self _ _ c.loop-self-test.ensures.taken in
+    let rest = shorter c.loop-self.self c.take.new.self _ _ c.loop-self-test.ensures.taken in
     record {
       reads = one_more_factor (λ h.
           verdict (spot_of c.args.self.now) (factor_wanted (first_factor h)))
@@ -54,5 +54,5 @@ term-loop-self-preserved t c =
           c.in_ok-new.field-0.value c.in_ok-next.next c.in_ok-new-2.field-0.value
           c.loop-self.invariant.reads c.loop-self-test.ensures.taken c.requires
           c.in_ok-new.ensures.ok c.in_ok-new-2.ensures.ok c.in_ok-next.ensures.reads;
-      shorter = omega (arith, left, c.in_ok-next.ensures.shorter, c.loop-self.invariant.shorter);
+      shorter = omega (arith, rest, c.in_ok-next.ensures.shorter, c.loop-self.invariant.shorter);
     }

@@ -16,19 +16,19 @@ abbrev pub invariant-term-loop-self : goal.invariant-term-loop-self
 invariant-term-loop-self l =
     record {
       reads : ReadsTerm l.depth (spot_of l.fn.self) (spot_of l.self) (Ok l.product);
-      shorter : length l.self.left.now ≤ length l.fn.self.left.now;
+      shorter : length l.self.rest.now ≤ length l.fn.self.rest.now;
     }
 
 abbrev pub decreases-term-loop-self : goal.decreases-term-loop-self
-decreases-term-loop-self l = length l.self.left.now
+decreases-term-loop-self l = length l.self.rest.now
 
 abbrev pub invariant-expression-loop-sign : goal.invariant-expression-loop-sign
 invariant-expression-loop-sign l =
     record {
       reads : ReadsExpr l.depth (spot_of l.fn.self) (spot_of l.self) (Ok l.sum);
       ends : NoTimes (spot_of l.self);
-      shorter : length l.self.left.now ≤ length l.fn.self.left.now;
+      shorter : length l.self.rest.now ≤ length l.fn.self.rest.now;
     }
 
 abbrev pub decreases-expression-loop-sign : goal.decreases-expression-loop-sign
-decreases-expression-loop-sign l = length l.self.left.now
+decreases-expression-loop-sign l = length l.self.rest.now

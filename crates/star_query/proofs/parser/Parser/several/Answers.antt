@@ -15,14 +15,14 @@ loop-self-init g c =
 
 pub loop-self-preserved : goal.loop-self-preserved
 loop-self-preserved g c =
-    let left = shorter c.loop-self.self c.take.new.self _ _ c.loop-self-test.ensures.taken in
+    let rest = shorter c.loop-self.self c.take.new.self _ _ c.loop-self-test.ensures.taken in
     record {
       reads = g.met.L.Listing.is_list.next (spot_of c.args.self.now) (spot_of c.loop-self.self)
           (spot_of c.take.new.self) (spot_of c.read-in-loop-self.new.parser) c.loop-self.several
           c.push-in-loop-self.new.self c.in_ok-next.next c.loop-self.invariant.reads
           c.in_ok-push-2.ensures.items (comma_passed _ _ c.loop-self-test.ensures.taken)
           c.in_ok-next.ensures.reads;
-      shorter = omega (arith, left, c.in_ok-next.ensures.shorter, c.loop-self.invariant.shorter);
+      shorter = omega (arith, rest, c.in_ok-next.ensures.shorter, c.loop-self.invariant.shorter);
     }
 
 pub returns-in_err-first-clause-reads : goal.returns-in_err-first-clause-reads

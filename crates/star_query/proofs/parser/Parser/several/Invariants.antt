@@ -7,8 +7,8 @@ abbrev pub invariant-loop-self : goal.invariant-loop-self
 invariant-loop-self g l =
     record {
       reads : g.L.Listing.ReadsAll (spot_of l.fn.self) (spot_of l.self) (Ok l.several);
-      shorter : length l.self.left.now ≤ length l.fn.self.left.now;
+      shorter : length l.self.rest.now ≤ length l.fn.self.rest.now;
     }
 
 abbrev pub decreases-loop-self : goal.decreases-loop-self
-decreases-loop-self g l = length l.self.left.now
+decreases-loop-self g l = length l.self.rest.now

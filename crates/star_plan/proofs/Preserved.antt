@@ -1,6 +1,6 @@
 -- The plan of a well named query within the limits is sound and within the limits.
 use Rattle.std.{proofs.Common.{◌≡◌, ◌∙◌, sym, ap, subst, ◌+◌, ◌<◌, ◌≤◌, ◌^◌, true, List, [], ◌∷◌, Option, Some, None, length, arith}, specs.List.{list_all, sum_by}, proofs.lemmas.List.Sums.sum_by-cons}
-use Rattle.star_plan.{proofs.Conditions.some_there, proofs.Whole.{conjuncts_there, keys_there, measures_there, parts}, proofs.KeptJoins.{at_most_four, where_foreign}, proofs.KeptSpelling.{measures_spelled, names_spelled, where_spelled}, specs.Joins.{is_foreign, joins_of, where_pairs}, specs.Meaning.Plan, specs.Names.column_at, specs.Naming.{aggregate_names, resolved_key}, specs.Faults.plan_fault, specs.Resolved.IsResolved, specs.Limits.IsPlanWithinLimits, specs.Spelled.IsSpelledPlan, specs.Sound.{are_distinct, condition_is_sound, in_scope, is_group_column, measure_is_sound, IsSoundPlan}, proofs.KeptCounts.{all_counted, items_counted, items_there, measures_counted, names_counted, operands_counted, sorts_there, where_comparisons}}
+use Rattle.star_plan.{proofs.Conditions.some_there, proofs.Whole.{conjuncts_there, keys_there, measures_there, parts}, proofs.PreservedJoins.{at_most_four, where_foreign}, proofs.PreservedSpelling.{measures_spelled, names_spelled, where_spelled}, specs.Joins.{is_foreign, joins_of, where_pairs}, specs.Meaning.Plan, specs.Names.column_at, specs.Naming.{aggregate_names, resolved_key}, specs.Faults.plan_fault, specs.Resolved.IsResolved, specs.Limits.IsPlanWithinLimits, specs.Spelled.IsSpelledPlan, specs.Sound.{are_distinct, condition_is_sound, in_scope, is_group_column, measure_is_sound, IsSoundPlan}, proofs.PreservedCounts.{all_counted, items_counted, items_there, measures_counted, names_counted, operands_counted, sorts_there, where_comparisons}}
 use Rattle.star_schema.specs.Schema.{table_of}
 use Rattle.star_query.specs.Tree as tree
 use Rattle.star_query.specs.{Tree.Tree, Spelled.is_name}
@@ -18,9 +18,9 @@ few_aggregates (tree.plain n ∷ is') =
 few_aggregates (tree.aggregate a ∷ is') =
     omega (arith, few_aggregates is', sum_by-cons asked.aggregates_in (tree.aggregate a) is')
 
-pub kept_within : (t : Tree) (p : Plan) → asked.IsQueryWithinLimits t → plan_fault t ≡ None
+pub preserved_within : (t : Tree) (p : Plan) → asked.IsQueryWithinLimits t → plan_fault t ≡ None
     → IsResolved t p → IsPlanWithinLimits p
-kept_within t p few named resolved =
+preserved_within t p few named resolved =
     let there = parts t named in
     let conditions = where_comparisons t.condition p.conjuncts resolved.conjuncts in
     let groups = all_counted column_at t.grouping.columns p.keys resolved.keys in
@@ -41,8 +41,8 @@ kept_within t p few named resolved =
       sorts = omega (arith, sorts, few.keys);
     }
 
-pub kept_sound : (t : Tree) (p : Plan) → plan_fault t ≡ None → IsResolved t p → IsSoundPlan p
-kept_sound t p named resolved =
+pub preserved_sound : (t : Tree) (p : Plan) → plan_fault t ≡ None → IsResolved t p → IsSoundPlan p
+preserved_sound t p named resolved =
     let there = parts t named in
     let js = joins_of (where_pairs t.condition) in
     let conjuncts = conjuncts_there t there.named in
@@ -93,9 +93,9 @@ kept_sound t p named resolved =
           (sorts_there t.grouping.columns (aggregate_names t.items) t.keys p.sorts resolved.sorts));
     }
 
-pub kept_spelled : (t : Tree) (p : Plan) → asked.IsQueryWithinLimits t → spelled.IsSpelledQuery t
-    → IsResolved t p → IsSpelledPlan p
-kept_spelled t p few good resolved =
+pub preserved_spelled : (t : Tree) (p : Plan) → asked.IsQueryWithinLimits t
+    → spelled.IsSpelledQuery t → IsResolved t p → IsSpelledPlan p
+preserved_spelled t p few good resolved =
     let short : 1 + length t.items < 2 ^ 64 = omega (arith, few.items) in
     record {
       names = ap (list_all is_name) resolved.names ∙ names_spelled 1 t.items short good.items;

@@ -5,56 +5,56 @@ use Rattle.star_query.specs.declared.fault.QueryFault.TheVariants as faults
 
 -- ---- what is said of a text
 
-pub data Told : Type 0 where
-  nothing : Told
-  means : Tree → Told
-  fault : QueryFault → Told
+pub data TextResult : Type 0 where
+  nothing : TextResult
+  means : Tree → TextResult
+  fault : QueryFault → TextResult
 
-abbrev pub Says : List ℕ → Told → Type 0
+abbrev pub Says : List ℕ → TextResult → Type 0
 Says bytes nothing = Unit {0}
 Says bytes (means tree) = Means bytes tree
 Says bytes (fault f) = IsFirstQueryFault bytes f
 
--- the tokens that are left are the last ones
-abbrev left_of : List Placed → List Symbol → List Placed
-left_of tokens left = drop (length tokens - length left) tokens
+-- the remaining tokens are the last ones
+abbrev rest_of : List Placed → List Symbol → List Placed
+rest_of tokens rest = drop (length tokens - length rest) tokens
 
-abbrev told_of : ℕ → List Placed → Verdict → Told
-told_of end tokens (Whole q) = means (query_tree q)
-told_of end tokens (Bad Unexpected left) =
-    fault (faults.Unexpected (first_offset (left_of tokens left) end))
-told_of end tokens (Bad TooDeep left) = fault faults.TooDeep
-told_of end tokens (Bad TooMany left) = fault faults.TooMany
+abbrev tokens_result : ℕ → List Placed → Verdict → TextResult
+tokens_result end tokens (Whole q) = means (query_tree q)
+tokens_result end tokens (Bad Unexpected rest) =
+    fault (faults.Unexpected (first_offset (rest_of tokens rest) end))
+tokens_result end tokens (Bad TooDeep rest) = fault faults.TooDeep
+tokens_result end tokens (Bad TooMany rest) = fault faults.TooMany
 
-abbrev told_cut : ℕ → Result (List Placed) QueryFault → Told
-told_cut end (Ok tokens) = told_of end tokens (verdict_of (symbols tokens))
-told_cut end (Err (faults.BadCharacter offset)) = fault (faults.BadCharacter offset)
-told_cut end (Err (faults.BadNumber offset)) = fault (faults.BadNumber offset)
-told_cut end (Err (faults.OpenText offset)) = fault (faults.OpenText offset)
-told_cut end (Err _) = nothing
+abbrev cut_result : ℕ → Result (List Placed) QueryFault → TextResult
+cut_result end (Ok tokens) = tokens_result end tokens (verdict_of (symbols tokens))
+cut_result end (Err (faults.BadCharacter offset)) = fault (faults.BadCharacter offset)
+cut_result end (Err (faults.BadNumber offset)) = fault (faults.BadNumber offset)
+cut_result end (Err (faults.OpenText offset)) = fault (faults.OpenText offset)
+cut_result end (Err _) = nothing
 
-abbrev pub told : List ℕ → Told
-told bytes = if nat_lt most_bytes (length bytes) then fault faults.TooLong
-    else told_cut (length bytes) (cut_of bytes)
+abbrev pub text_result : List ℕ → TextResult
+text_result bytes = if nat_lt most_bytes (length bytes) then fault faults.TooLong
+    else cut_result (length bytes) (cut_of bytes)
 
 -- ---- it holds
 
 module _ (bytes : List ℕ) (tokens : List Placed) (short : length bytes ≤ most_bytes)
     (cut : cut_of bytes ≡ Ok tokens) where
-  stops : (f : Fault) (left : List Symbol) → verdict_of (symbols tokens) ≡ Bad f left
-      → StopsAt bytes f (left_of tokens left)
-  stops f left e = stopped bytes tokens _ f short cut (stops_at tokens f left e)
+  stops : (f : Fault) (rest : List Symbol) → verdict_of (symbols tokens) ≡ Bad f rest
+      → StopsAt bytes f (rest_of tokens rest)
+  stops f rest e = stopped bytes tokens _ f short cut (stops_at tokens f rest e)
 
   verdict_holds : (v : Verdict) → verdict_of (symbols tokens) ≡ v
-      → Says bytes (told_of (length bytes) tokens v)
+      → Says bytes (tokens_result (length bytes) tokens v)
   verdict_holds (Whole q) e = means_tokens bytes tokens _ short cut (derives _ _ e)
-  verdict_holds (Bad Unexpected left) e =
-      (left_of tokens left, stops Unexpected left e, refl)
-  verdict_holds (Bad TooDeep left) e = (left_of tokens left, stops TooDeep left e)
-  verdict_holds (Bad TooMany left) e = (left_of tokens left, stops TooMany left e)
+  verdict_holds (Bad Unexpected rest) e =
+      (rest_of tokens rest, stops Unexpected rest e, refl)
+  verdict_holds (Bad TooDeep rest) e = (rest_of tokens rest, stops TooDeep rest e)
+  verdict_holds (Bad TooMany rest) e = (rest_of tokens rest, stops TooMany rest e)
 
 cut_holds : (bytes : List ℕ) → length bytes ≤ most_bytes → (c : Result (List Placed) QueryFault)
-    → cut_of bytes ≡ c → Says bytes (told_cut (length bytes) c)
+    → cut_of bytes ≡ c → Says bytes (cut_result (length bytes) c)
 cut_holds bytes short (Ok tokens) e = verdict_holds bytes tokens short e _ refl
 cut_holds bytes short (Err (faults.BadCharacter offset)) e =
     (short, (stop_cuts bytes (faults.BadCharacter offset)).0 e)
@@ -64,10 +64,10 @@ cut_holds bytes short (Err (faults.OpenText offset)) e =
     (short, (stop_cuts bytes (faults.OpenText offset)).0 e)
 cut_holds bytes short (Err _) e = tt
 
-pub holds : (bytes : List ℕ) → Says bytes (told bytes)
+pub holds : (bytes : List ℕ) → Says bytes (text_result bytes)
 holds bytes = by_length (nat_lt most_bytes (length bytes)) refl
   where
     by_length : (b : Bool) → nat_lt most_bytes (length bytes) ≡ b
-        → Says bytes (if b then fault faults.TooLong else told_cut (length bytes) (cut_of bytes))
+        → Says bytes (if b then fault faults.TooLong else cut_result (length bytes) (cut_of bytes))
     by_length true e = grind (arith, e)
     by_length false e = cut_holds bytes (grind (arith, e)) (cut_of bytes) refl
