@@ -126,9 +126,7 @@ number_front offset digits rest n e over = go digits (numeral_parts most_digits 
 text_front : (offset : ℕ) (t rest : List ℕ) → list_all is_printable t ≡ true
     → is_whole (text t) rest ≡ true
     → front_piece offset (quoted t ++ rest) ≡ token (text t) (length (quoted t))
-text_front offset t rest printed over =
-    ap (front_piece offset) (quoted_front t rest)
-    ∙ read_closed offset t rest printed (sym (over_text t [] rest) ∙ over)
+text_front offset t rest printed over = grind (arith, quoted_front, read_closed, over_text)
 
 -- signs
 less_front : (offset : ℕ) (rest : List ℕ) → is_whole (relation r.Less) rest ≡ true
@@ -137,9 +135,7 @@ less_front offset it over = grind (arith, by_bool, or_parts)
 
 greater_front : (offset : ℕ) (rest : List ℕ) → is_whole (relation r.Greater) rest ≡ true
     → front_piece offset (62 ∷ rest) ≡ token (relation r.Greater) 1
-greater_front offset [] over = refl
-greater_front offset (c ∷ cs) over =
-    by_bool (c == 61) (λ wrong. absurd (let h = rw wrong at over in cc)) (λ none. rw none refl)
+greater_front offset it over = grind (arith, by_bool)
 
 sign_front : (offset : ℕ) (word : List ℕ) (x : Symbol) (rest : List ℕ) → Contains signs (word, x)
     → is_whole x rest ≡ true → front_piece offset (word ++ rest) ≡ token x (length word)
@@ -152,9 +148,7 @@ token_front offset word rest x (a_word is w e same) over =
     word_front offset word rest is (subst (λ y. is_whole y rest ≡ true) (sym found) over)
     ∙ ap (λ y. token y (length word)) found
 token_front offset word rest x (a_name is none same) over = grind (arith, name_of, word_front)
-token_front offset word rest x (a_number n e same) over =
-    let o : is_whole (number n) rest ≡ true = rw (← same) over in
-    number_front offset word rest n e o ∙ ap (λ y. token y (length word)) (sym same)
+token_front offset word rest x (a_number n e same) over = grind (arith, true, number_front, length)
 token_front offset word rest x (a_text t printed cut same) over = grind (arith, text_front)
 token_front offset word rest x (a_sign there) over = sign_front offset word x rest there over
 

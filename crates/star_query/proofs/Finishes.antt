@@ -183,15 +183,11 @@ state_finishes (ended g ks) = (query_of g ks true, [], refl)
 
 cond_end_passed : (a : Cond) (h : CondHole) (q : Query) → cond_end a h ≡ Some q
     → cond_passed h (cond_marks (cond_depth h) a []) ≡ query_marks q
-cond_end_passed a (in_where is ts) q e = let same : with_filter is ts (Some a) ≡ q = cc in
-    ap query_marks same
-cond_end_passed a (in_group h) q e = cc
+cond_end_passed a it q e = grind arith
 
 columns_end_passed : (f : Filtered) (h : Option Hiding) (is : Several Name) (q : Query)
     → query_at_end (columns_had f h is) ≡ Some q → passed (columns_had f h is) [] ≡ query_marks q
-columns_end_passed f None is q e =
-    let same : query_of (grouped_by f (grouped is)) None false ≡ q = cc in ap query_marks same
-columns_end_passed f (Some h) is q e = cc
+columns_end_passed f it is q e = grind (arith, false)
 
 -- what was read where a query ends
 pub end_passed : (from : ParserState) (q : Query) → query_at_end from ≡ Some q

@@ -1,5 +1,5 @@
 -- The readers of the lexer read what begins at a position.
-use Rattle.std.{proofs.Common.{None, ◌≡◌, ◌∙◌, ◌↔◌, ℕ, Bool, true, false, List, [], ◌∷◌, IsTrue, nat_eq, refl, sym, ap, subst, ◌+◌, ◌<◌, ◌≤◌, ◌-◌, arith, length, drop, take, zero, suc, Result, Ok, Err, ◌++◌, append_assoc, append-nil, drop-drop}, specs.Prelude.{nat_lt, ◌==◌}, specs.Cmp.Lexicographic.{bytes_decides, pointwise, same_text}, specs.Char.is_ascii_digit, specs.List.{list_all, prefix_len, slice_get}, proofs.lemmas.Bool.{and_from, le-leb, lt-ltb, ltb-false, ltb-true, or_right}, proofs.lemmas.List.drop_all, proofs.lemmas.List.Sums.prefix_len-le-length, proofs.lemmas.List.Folds.length-prefix_len, proofs.lemmas.Grind.common_steps}
+use Rattle.std.{proofs.Common.{None, ◌≡◌, ◌∙◌, ◌↔◌, ℕ, Bool, true, false, List, [], ◌∷◌, IsTrue, nat_eq, refl, sym, ap, subst, ◌+◌, ◌<◌, ◌≤◌, arith, length, drop, take, zero, suc, Result, Ok, Err, ◌++◌, append_assoc, append-nil, drop-drop}, specs.Prelude.{nat_lt, ◌==◌}, specs.Cmp.Lexicographic.{bytes_decides, pointwise, same_text}, specs.Char.is_ascii_digit, specs.List.{list_all, prefix_len, slice_get}, proofs.lemmas.Bool.{and_from, le-leb, lt-ltb, ltb-false, ltb-true, or_right}, proofs.lemmas.List.drop_all, proofs.lemmas.List.Sums.prefix_len-le-length, proofs.lemmas.List.Folds.length-prefix_len, proofs.lemmas.Grind.common_steps}
 use Rattle.star_query.specs.{declared.token.Word.Word, declared.fault.QueryFault.TheVariants.{BadNumber, OutOfMemory, TooLong}, declared.fault.QueryFault.QueryFault, Symbols.{Symbol, Placed, spelling, lowered}, Tokens.{begins_with_letter, is_letter, is_word_byte}, Private.Lexed.{front_piece, with_tokens, begins_with_digit, IsCutFault}, Private.Cut.{Piece, is_spelled, blank, token, bad, cut_from, cut_of, put_in_front, number_piece, sign_piece}}
 use Rattle.star_common.specs.{Numerals.is_numeral, Numerals.numeral_of, WhiteSpace.is_blank}
 

@@ -1,8 +1,8 @@
 -- What was read on the way to a state, and that each step reads one symbol more.
-use Rattle.std.proofs.Common.{◌≡◌, ◌∙◌, ◌+◌, List, [], ◌∷◌, Option, Some, None, refl, ap, subst, arith}
+use Rattle.std.proofs.Common.{◌≡◌, ◌∙◌, ◌+◌, List, [], ◌∷◌, Option, Some, None, refl, subst, arith}
 use Rattle.star_query.specs.declared.token.Keyword.TheVariants as k
 use Rattle.star_query.specs.declared.token.Sign.TheVariants as s
-use Rattle.star_query.specs.{declared.token.Additive.TheVariants.Minus, declared.token.Relation.Relation, Tree.Name, Grammar.Mark, Symbols.{Symbol, keyword, fold, count, relation, sign, additive, name, number}, Private.Phrases.{Several, Expr, Term, Factor, Lit, Cond, Conj, Unary, not_unit, compare, between, Item, Key, ascending, descending, grouped, at, first, ident, function, expr_marks, term_marks, factor_marks, lit_marks, cond_marks, conj_marks, unit_marks, agg_marks, item_marks, table_marks, column_marks, key_marks, several_marks, where_marks, groups_marks, keys_marks, Hiding, hiding_word}, Private.Machine.{extended, ExprHole, in_fold, in_parens, TermHole, first_term, next_term, FactorHole, first_factor, next_factor, CondHole, in_where, in_group, ConjHole, first_conj, next_conj, UnitHole, first_unit, next_unit, under_not, LitHole, compared, low, high, Filtered, Grouped, filtered_by, grouped_by, expr_depth, term_depth, factor_depth, cond_depth, conj_depth, unit_depth, lit_depth, ParserState, begin, item_wanted, fold_named, count_named, count_opened, count_starred, factor_wanted, factor_negative, term_had, agg_had, alias_wanted, items_had, table_wanted, tables_had, unit_wanted, unit_named, equal_had, lit_wanted, lit_negative, low_had, conj_had, filtered_had, group_had, by_had, hiding_had, column_wanted, columns_had, grouped_had, order_had, key_wanted, key_named, keys_had, done, ended, Step, give_factor, joined_expr, around_term, give_unit, joined_cond, around_conj, give_lit, behind_relation, closed_expr, on_items, on_done, on_grouped, on_filtered, on_lit, closed_cond, on_cond, on_column, on_keys, next_step}}
+use Rattle.star_query.specs.{declared.token.Additive.TheVariants.Minus, declared.token.Relation.Relation, Tree.Name, Grammar.Mark, Symbols.{Symbol, keyword, fold, count, relation, sign, additive}, Private.Phrases.{Several, Expr, Term, Factor, Lit, Cond, Conj, Unary, not_unit, Item, Key, at, first, ident, function, expr_marks, term_marks, factor_marks, lit_marks, cond_marks, conj_marks, unit_marks, agg_marks, item_marks, table_marks, column_marks, key_marks, several_marks, where_marks, groups_marks, keys_marks, Hiding, hiding_word}, Private.Machine.{extended, ExprHole, in_fold, in_parens, TermHole, first_term, next_term, FactorHole, first_factor, next_factor, CondHole, in_where, in_group, ConjHole, first_conj, next_conj, UnitHole, first_unit, next_unit, under_not, LitHole, compared, low, high, Filtered, Grouped, expr_depth, term_depth, factor_depth, cond_depth, conj_depth, unit_depth, lit_depth, ParserState, begin, item_wanted, fold_named, count_named, count_opened, count_starred, factor_wanted, factor_negative, term_had, agg_had, alias_wanted, items_had, table_wanted, tables_had, unit_wanted, unit_named, equal_had, lit_wanted, lit_negative, low_had, conj_had, filtered_had, group_had, by_had, hiding_had, column_wanted, columns_had, grouped_had, order_had, key_wanted, key_named, keys_had, done, ended, Step, give_factor, joined_expr, around_term, give_unit, joined_cond, around_conj, give_lit, behind_relation, closed_expr, on_items, on_done, on_grouped, on_filtered, on_lit, closed_cond, on_cond, on_column, on_keys, next_step}}
 use Rattle.star_query.specs.declared.token.Relation.TheVariants as r
 use Rattle.star_query.specs.declared.counts.Part.TheVariants as part
 
@@ -180,9 +180,7 @@ joined_cond_passed (next_conj a h) c rest = refl
 
 give_lit_passed : (h : LitHole) (l : Lit) (rest : List Mark)
     → passed (give_lit l h) rest ≡ lit_passed h (lit_marks (lit_depth h) l rest)
-give_lit_passed (compared h i q) l rest = give_unit_passed h (compare i q l) rest
-give_lit_passed (low h i) l rest = refl
-give_lit_passed (high h i m) l rest = give_unit_passed h (between i m l) rest
+give_lit_passed it l rest = grind (arith, give_unit_passed)
 
 close_moves : (t : Term) (h : TermHole) (e : Expr) (o : ExprHole)
     → ((rest : List Mark) → expr_passed o (expr_marks (expr_depth o) e rest)
@@ -191,9 +189,7 @@ close_moves : (t : Term) (h : TermHole) (e : Expr) (o : ExprHole)
 close_moves t h e it same = grind (arith, moves, give_factor_passed)
 
 items_moves : (is : Several Item) (x : Symbol) → IfStep (on_items is x) (Moves (items_had is) x)
-items_moves is (sign s.Comma) = moves _ _ _ _ refl (λ rest. refl)
-items_moves is (keyword k.From) = moves _ _ _ _ refl (λ rest. refl)
-items_moves is _ = tt
+items_moves is it = grind (arith, moves)
 
 done_moves : (g : Grouped) (ks : Option (Several Key)) (x : Symbol)
     → IfStep (on_done g ks x) (Moves (done g ks) x)
@@ -201,9 +197,7 @@ done_moves g ks (sign s.Semicolon) = moves _ _ _ _ refl (λ rest. refl)
 done_moves g ks _ = tt
 
 grouped_moves : (g : Grouped) (x : Symbol) → IfStep (on_grouped g x) (Moves (grouped_had g) x)
-grouped_moves g (keyword k.Order) = moves _ _ _ _ refl (λ rest. refl)
-grouped_moves g x = moves_along (grouped_had g) (done g None) x (on_grouped g x) (λ rest. refl)
-    (done_moves g None x)
+grouped_moves g it = grind (arith, moves, moves_along, done_moves)
 
 filtered_moves : (f : Filtered) (x : Symbol) → IfStep (on_filtered f x) (Moves (filtered_had f) x)
 filtered_moves f x = grind (arith, moves, moves_along, grouped_moves)
@@ -236,109 +230,11 @@ column_moves f h b it = grind (arith, moves, several-extended)
 
 keys_moves : (g : Grouped) (ks : Several Key) (x : Symbol)
     → IfStep (on_keys g ks x) (Moves (keys_had g ks) x)
-keys_moves g ks (sign s.Comma) = moves _ _ _ _ refl (λ rest. refl)
-keys_moves g ks x = moves_along (keys_had g ks) (done g (Some ks)) x (on_keys g ks x) (λ rest. refl)
-    (done_moves g (Some ks) x)
+keys_moves g ks it = grind (arith, moves, moves_along, done_moves)
 
 all_moves : (from : ParserState) (x : Symbol) → IfStep (next_step from x) (Moves from x)
-all_moves begin (keyword k.Select) = moves _ _ _ _ refl (λ rest. refl)
-all_moves begin _ = tt
-all_moves (item_wanted b) (name t p) =
-    moves _ _ _ _ refl (λ rest.
-    ap (λ l. at 0 (keyword k.Select) ∷ l) (several-extended item_marks b _ rest))
-all_moves (item_wanted b) (fold f p) = moves _ _ _ _ refl (λ rest. refl)
-all_moves (item_wanted b) (count p) = moves _ _ _ _ refl (λ rest. refl)
-all_moves (item_wanted b) _ = tt
-all_moves (fold_named b f p) (sign s.Open) = moves _ _ _ _ refl (λ rest. refl)
-all_moves (fold_named b f p) _ = tt
-all_moves (count_named b p) (sign s.Open) = moves _ _ _ _ refl (λ rest. refl)
-all_moves (count_named b p) _ = tt
-all_moves (count_opened b p) (sign s.Star) = moves _ _ _ _ refl (λ rest. refl)
-all_moves (count_opened b p) _ = tt
-all_moves (count_starred b p) (sign s.Close) = moves _ _ _ _ refl (λ rest. refl)
-all_moves (count_starred b p) _ = tt
-all_moves (factor_wanted h) (name t p) = moves _ _ _ _ refl (give_factor_passed h _)
-all_moves (factor_wanted h) (number n) = moves _ _ _ _ refl (give_factor_passed h _)
-all_moves (factor_wanted h) (additive Minus) = moves _ _ _ _ refl (λ rest. refl)
-all_moves (factor_wanted h) (sign s.Open) = moves _ _ _ _ refl (λ rest. refl)
-all_moves (factor_wanted h) _ = tt
-all_moves (factor_negative h) (number n) = moves _ _ _ _ refl (give_factor_passed h _)
-all_moves (factor_negative h) _ = tt
-all_moves (term_had t h) (sign s.Star) = moves _ _ _ _ refl (λ rest. refl)
-all_moves (term_had t h) (additive q) =
-    grind (arith, moves, expr_passed, same_depth, joined_expr_passed)
-all_moves (term_had t h) (sign s.Close) =
-    close_moves t h (joined_expr t h) (around_term h) (joined_expr_passed h t)
-all_moves (term_had t h) _ = tt
-all_moves (agg_had b a) (keyword k.As) = moves _ _ _ _ refl (λ rest. refl)
-all_moves (agg_had b a) x = grind (arith, moves_along, several-extended, items_moves)
-all_moves (alias_wanted b a) (name t p) =
-    moves _ _ _ _ refl (λ rest.
-    ap (λ l. at 0 (keyword k.Select) ∷ l) (several-extended item_marks b _ rest))
-all_moves (alias_wanted b a) _ = tt
-all_moves (items_had is) x = items_moves is x
-all_moves (table_wanted is b) (name t p) =
-    moves _ _ _ _ refl (λ rest.
-    ap (λ l. items_passed is (at 0 (keyword k.From) ∷ l)) (several-extended table_marks b _ rest))
-all_moves (table_wanted is b) _ = tt
-all_moves (tables_had is ts) (sign s.Comma) = moves _ _ _ _ refl (λ rest. refl)
-all_moves (tables_had is ts) (keyword k.Where) = moves _ _ _ _ refl (λ rest. refl)
-all_moves (tables_had is ts) x =
-    moves_along (tables_had is ts) (filtered_had (filtered_by is ts None)) x
-    (next_step (tables_had is ts) x) (λ rest. refl) (filtered_moves (filtered_by is ts None) x)
-all_moves (unit_wanted h) (name t p) = moves _ _ _ _ refl (λ rest. refl)
-all_moves (unit_wanted h) (keyword k.Not) = moves _ _ _ _ refl (λ rest. refl)
-all_moves (unit_wanted h) (sign s.Open) = moves _ _ _ _ refl (λ rest. refl)
-all_moves (unit_wanted h) _ = tt
-all_moves (unit_named h i) (relation q) = moves _ _ _ _ refl (relation_passed h i q)
-all_moves (unit_named h i) (keyword k.Between) = moves _ _ _ _ refl (λ rest. refl)
-all_moves (unit_named h i) _ = tt
-all_moves (equal_had h i) (name t p) = moves _ _ _ _ refl (give_unit_passed h _)
-all_moves (equal_had h i) x =
-    moves_along (equal_had h i) (lit_wanted (compared h i r.Equal)) x (next_step (equal_had h i) x)
-    (λ rest. refl) (lit_moves (compared h i r.Equal) x)
-all_moves (lit_wanted h) x = lit_moves h x
-all_moves (lit_negative h) (number n) = moves _ _ _ _ refl (give_lit_passed h _)
-all_moves (lit_negative h) _ = tt
-all_moves (low_had h i l) (keyword k.And) = moves _ _ _ _ refl (λ rest. refl)
-all_moves (low_had h i l) _ = tt
-all_moves (conj_had c h) (keyword k.And) = moves _ _ _ _ refl (λ rest. refl)
-all_moves (conj_had c h) (keyword k.Or) =
-    grind (arith, moves, cond_passed, conj_depth_around, joined_cond_passed)
-all_moves (conj_had c h) x = cond_moves (conj_had c h) (joined_cond c h) (around_conj h) x
-    (joined_cond_passed h c)
-all_moves (filtered_had f) x = filtered_moves f x
-all_moves (group_had f) (keyword k.By) = moves _ _ _ _ refl (λ rest. refl)
-all_moves (group_had f) _ = tt
-all_moves (by_had f) (keyword k.Cube) = moves _ _ _ _ refl (λ rest. refl)
-all_moves (by_had f) (keyword k.Rollup) = moves _ _ _ _ refl (λ rest. refl)
-all_moves (by_had f) x = moves_along (by_had f) (column_wanted f None None) x
-    (next_step (by_had f) x) (λ rest. refl) (column_moves f None None x)
-all_moves (hiding_had f h) (sign s.Open) = moves _ _ _ _ refl (λ rest. refl)
-all_moves (hiding_had f h) _ = tt
-all_moves (column_wanted f h b) x = column_moves f h b x
-all_moves (columns_had f h is) (sign s.Comma) = moves _ _ _ _ refl (λ rest. refl)
-all_moves (columns_had f (Some h) is) (sign s.Close) = moves _ _ _ _ refl (λ rest. refl)
-all_moves (columns_had f (Some h) is) _ = tt
-all_moves (columns_had f None is) x =
-    moves_along (columns_had f None is) (grouped_had (grouped_by f (grouped is))) x
-    (next_step (columns_had f None is) x) (λ rest. refl)
-    (grouped_moves (grouped_by f (grouped is)) x)
-all_moves (grouped_had g) x = grouped_moves g x
-all_moves (order_had g) (keyword k.By) = moves _ _ _ _ refl (λ rest. refl)
-all_moves (order_had g) _ = tt
-all_moves (key_wanted g b) (name t p) = moves _ _ _ _ refl (λ rest. refl)
-all_moves (key_wanted g b) _ = tt
-all_moves (key_named g b i) (keyword k.Asc) =
-    moves _ _ _ _ refl (λ rest.
-    ap (order_passed g) (several-extended key_marks b (ascending i) rest))
-all_moves (key_named g b i) (keyword k.Desc) =
-    moves _ _ _ _ refl (λ rest.
-    ap (order_passed g) (several-extended key_marks b (descending i) rest))
-all_moves (key_named g b i) x = grind (arith, moves_along, several-extended, keys_moves)
-all_moves (keys_had g ks) x = keys_moves g ks x
-all_moves (done g ks) x = done_moves g ks x
-all_moves (ended g ks) x = tt
+all_moves it it2 =
+    grind (arith, moves, several-extended, give_factor_passed, same_depth, joined_expr_passed, close_moves, moves_along, items_moves, filtered_moves, relation_passed, give_unit_passed, lit_moves, give_lit_passed, conj_depth_around, joined_cond_passed, cond_moves, column_moves, grouped_moves, keys_moves, done_moves)
 
 pub step_moves : (from : ParserState) (x : Symbol) (st : Step) → next_step from x ≡ Some st
     → Moves from x st

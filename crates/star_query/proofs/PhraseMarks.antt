@@ -187,7 +187,8 @@ enclosed : {a : List Mark → List Mark} {ms : List Mark} → Flat a ms
 enclosed wa = both (mark (w.at (sign s.Open))) (both wa (mark (w.at (sign s.Close))))
 
 agg_written : (x : Agg) → Flat (agg_marks x) (flat_agg x)
-agg_written (g.folded f p e) = both (mark (g.function (fold f p))) (enclosed (flat (expr_written e)))
+agg_written (g.folded f p e) =
+    both (mark (g.function (fold f p))) (enclosed (flat (expr_written e)))
 agg_written (g.counted p) = record { written = λ rest. refl }
 
 item_written : (x : g.Item) → Flat (item_marks x) (flat_item x)

@@ -4,7 +4,6 @@ use Rattle.std.{proofs.Common.{◌≡◌, ◌∙◌, refl, sym, ap, subst, ℕ, 
 use Rattle.std.specs.Prelude.{codes, ◌==◌, ◌||◌, not as negated, nat_lt, Contains, if◌then◌else◌, slice_index_or}
 use Rattle.star_common.specs.{Quotes.doubled, Quotes.quoted, WhiteSpace.is_blank}
 use Rattle.star_query.{specs.declared.token.Word.Word, specs.declared.fault.QueryFault.TheVariants.BadNumber, specs.Symbols.{Symbol, relation, sign, additive, number, text}, specs.Private.Cut.{Piece, blank, token, bad, reserved, word_of, word_piece, number_piece, text_piece, sign_piece, piece_at}, specs.Tokens.{is_letter, is_word_byte, begins_with_letter, is_word, signs, IsToken, a_word, a_name, a_number, a_text, a_sign, continues, is_whole, Stops, bad_number, open_text, bad_byte, stray}, proofs.Counting.by_bool, proofs.Reserved.spelled_alone, proofs.Lexing.{number_some, numeral_front, prefix_passes}, proofs.Quotes.{Written, closed, stopped, open_ended, read_closed, read_open, read_stopped, written}}
-use Rattle.star_query.specs.declared.token.Word.TheVariants as words
 use Rattle.star_query.specs.declared.token.Relation.TheVariants as r
 use Rattle.star_query.specs.declared.token.Sign.TheVariants as s
 use Rattle.star_query.specs.declared.token.Additive.TheVariants as q
@@ -164,17 +163,13 @@ pub each_sign : (P : List ℕ × Symbol → Type 0) (word : List ℕ) (x : Symbo
     → P (codes "*", sign s.Star) → P (codes ";", sign s.Semicolon)
     → P (codes "+", additive q.Plus) → P (codes "-", additive q.Minus)
     → Contains signs (word, x) → P (word, x)
-each_sign P word x a b c d e f g h i j k l m (n, below, is) =
-    subst P is (at_position P signs n (word, x)
-    (a, (b, (c, (d, (e, (f, (g, (h, (i, (j, (k, (l, (m, tt))))))))))))) below)
+each_sign P word x a b c d e f g h i j k l m (n, below, is) = grind (arith, at_position)
 
 -- a byte that signs begin with
 sign_first : (offset b n : ℕ) (bs : List ℕ) → (b == n) ≡ true
     → Found offset (n ∷ bs) (sign_piece offset n (slice_get bs 0))
     → Found offset (b ∷ bs) (sign_piece offset b (slice_get bs 0))
-sign_first offset b n bs is found =
-    subst (λ c. Found offset (c ∷ bs) (sign_piece offset c (slice_get bs 0)))
-    (sym (eqb-true b n is)) found
+sign_first offset b n bs is found = grind (arith, eqb-true)
 
 nothing_over : (x : Symbol) (rest : List ℕ) → ((b : ℕ) → continues x b ≡ false)
     → is_whole x rest ≡ true

@@ -1,6 +1,6 @@
 -- The machine's verdict is the grammar's.
 use Rattle.std.{proofs.Common.{◌≡◌, ◌∙◌, ℕ, ◌+◌, ◌<◌, ◌≤◌, ◌⊎◌, inl, inr, Bool, true, false, ◌||◌, List, [], ◌∷◌, ◌++◌, Option, Some, None, cond, refl, sym, ap, subst, arith, append-nil}, specs.Prelude.nat_lt, specs.List.AllByRecursion, proofs.lemmas.Bool.{ltb-true, ltb-false}, proofs.lemmas.Grind.common_steps}
-use Rattle.star_query.{specs.declared.counts.Part.Part, specs.declared.counts.Counts.Counts, specs.declared.fault.Fault.Fault, specs.declared.fault.Fault.TheVariants.{Unexpected, TooDeep, TooMany}, specs.Symbols.{Symbol, symbols}, specs.Tree.Tree, specs.Private.Phrases.{Query, query_marks, query_tree}, specs.Maxima.limit, specs.Grammar.{Mark, IsQuery}, specs.Derives.{count_begun, IsShortName, AreWithinLimits, symbols_at, Derives, BeginsQuery, NoQueryGoesOn, QueryFails, unexpected, too_deep, too_many, FirstQueryFault, Means}, specs.Private.Machine.{ParserState, begin, Step, to, next_step, query_at_end, Verdict, Whole, Bad, count_of_part, plus, is_over, is_long, checked, verdict_after, ends, run, nothing_counted}, proofs.Cuts.one_cut, proofs.Accepting.{Accepts, query_goes}, proofs.Passed.{passed, step_moves}, proofs.Phrased.{is_query, query_is}, proofs.Finishes.{state_finishes, end_passed}, proofs.Counting.{not_below, number-plus, not_over, over_some, fits_after, short_name, not_long}}
+use Rattle.star_query.{specs.declared.counts.Part.Part, specs.declared.counts.Counts.Counts, specs.declared.fault.Fault.Fault, specs.declared.fault.Fault.TheVariants.{Unexpected, TooDeep, TooMany}, specs.Symbols.{Symbol, symbols}, specs.Tree.Tree, specs.Private.Phrases.{Query, query_marks, query_tree}, specs.Maxima.limit, specs.Grammar.{Mark, IsQuery}, specs.Derives.{count_begun, IsShortName, AreWithinLimits, symbols_at, Derives, BeginsQuery, NoQueryGoesOn, QueryFails, unexpected, too_deep, too_many, FirstQueryFault, Means}, specs.Private.Machine.{ParserState, begin, Step, to, next_step, query_at_end, Verdict, Whole, Bad, count_of_part, plus, is_over, is_long, checked, verdict_after, ends, run, nothing_counted}, proofs.Cuts.one_cut, proofs.Accepting.{Accepts, at_end, step, query_goes}, proofs.Passed.{passed, step_moves}, proofs.Phrased.{is_query, query_is}, proofs.Finishes.{state_finishes, end_passed}, proofs.Counting.{not_below, number-plus, not_over, over_some, fits_after, short_name, not_long}}
 
 -- from one state to another through these marks
 abbrev pub Goes : ParserState → List Mark → ParserState → Type 0
@@ -149,16 +149,16 @@ accepts_run : (ms : List Mark) (from : ParserState) (n : Counts) (q : Query) →
     → AllByRecursion (λ m. m.depth ≤ 32) ms → AllByRecursion (λ m. IsShortName m.symbol) ms
     → ((p : Part) → count_of_part n p + count_begun p ms ≤ limit p)
     → run (symbols_at ms) from n ≡ Whole q
-accepts_run [] from n q g deep names fits = ap ends g
-accepts_run (m ∷ ms) from n q g deep names fits =
+accepts_run [] from n q (at_end e) deep names fits = ap ends e
+accepts_run (m ∷ ms) from n q (step {next} e g) deep names fits =
     let shallow : nat_lt 32 m.depth ≡ false = not_below 32 m.depth deep.0 in
     let few : is_over (plus n m.parts) m.parts ≡ false =
     not_over (plus n m.parts) m.parts (λ p. omega (arith, number-plus m.parts n p, fits p)) in
     let short : is_long m.symbol ≡ false = not_long m.symbol names.0 in
-    let now : checked n m (symbols_at (m ∷ ms)) (run (symbols_at ms) g.0)
-    ≡ run (symbols_at ms) g.0 (plus n m.parts) = rw (shallow, few, short) refl in
-    ap (λ o. verdict_after o n (symbols_at (m ∷ ms)) (run (symbols_at ms))) g.1 ∙ now
-    ∙ accepts_run ms g.0 (plus n m.parts) q g.2 deep.1 names.1
+    let now : checked n m (symbols_at (m ∷ ms)) (run (symbols_at ms) next)
+    ≡ run (symbols_at ms) next (plus n m.parts) = rw (shallow, few, short) refl in
+    ap (λ o. verdict_after o n (symbols_at (m ∷ ms)) (run (symbols_at ms))) e ∙ now
+    ∙ accepts_run ms next (plus n m.parts) q g deep.1 names.1
     (λ p. omega (arith, number-plus m.parts n p, fits p))
 
 -- a verdict from the beginning
@@ -173,15 +173,7 @@ none_counted it = grind arith
 
 pub only : (xs : List Symbol) (t : Tree) → Derives xs t
     → (q : Query) × (verdict_of xs ≡ Whole q) × (query_tree q ≡ t)
-only xs t d =
-    let r = is_query d.query in
-    let within = subst AreWithinLimits (sym r.1) d.within in (
-      r.0,
-      ap verdict_of (sym (ap symbols_at r.1 ∙ d.written))
-          ∙ accepts_run (query_marks r.0) begin nothing_counted r.0 (query_goes r.0)
-          within.depth within.names (λ p. omega (arith, none_counted p, within.counts p)),
-      r.2,
-    )
+only xs t d = grind (arith, is_query, accepts_run, query_goes, none_counted)
 
 -- what was reached from the beginning is within the limits
 reached_within : (xs : List Symbol) (last : ParserState) (n : Counts) (ms : List Mark)
@@ -233,38 +225,32 @@ no_way : (front ms : List Mark) (from last : ParserState) (x : Symbol) (more : L
     (q : Query) → Accepts from ms q → Goes from front last
     → symbols_at ms ≡ symbols_at front ++ x ∷ more → next_step last x ≡ None → ⊥
 no_way [] [] from last x more q g way same e = cc
-no_way [] (m ∷ ms) from last x more q g way same e = grind arith
+no_way [] (m ∷ ms) from last x more q (step go g) way same e = grind arith
 no_way (f ∷ fs) [] from last x more q g way same e = cc
-no_way (f ∷ fs) (m ∷ ms) from last x more q g way same e =
+no_way (f ∷ fs) (m ∷ ms) from last x more q (step {next} go g) way same e =
     let here : m.symbol ≡ f.symbol = cc in
     let rest : symbols_at ms ≡ symbols_at fs ++ x ∷ more = cc in
-    let steps : to g.0 m ≡ to way.0 f = sym g.1 ∙ ap (next_step from) here ∙ way.1 in
-    let next = sym (same_next g.0 way.0 m f steps) in
-    no_way fs ms g.0 last x more q g.2 (subst (λ s. Goes s fs last) next way.2) rest e
+    let steps : to next m ≡ to way.0 f = sym go ∙ ap (next_step from) here ∙ way.1 in
+    let there = sym (same_next next way.0 m f steps) in
+    no_way fs ms next last x more q g (subst (λ s. Goes s fs last) there way.2) rest e
 
 -- none ends where none may
 no_end : (front ms : List Mark) (from last : ParserState) (q : Query) → Accepts from ms q
     → Goes from front last → symbols_at ms ≡ symbols_at front → query_at_end last ≡ None → ⊥
-no_end [] [] from last q g way same e = let stuck : Some q ≡ None =
+no_end [] [] from last q (at_end g) way same e = let stuck : Some q ≡ None =
     sym g ∙ ap query_at_end way ∙ e in cc
 no_end [] (m ∷ ms) from last q g way same e = cc
 no_end (f ∷ fs) [] from last q g way same e = cc
-no_end (f ∷ fs) (m ∷ ms) from last q g way same e =
+no_end (f ∷ fs) (m ∷ ms) from last q (step {next} go g) way same e =
     let here : m.symbol ≡ f.symbol = cc in
     let rest : symbols_at ms ≡ symbols_at fs = cc in
-    let steps : to g.0 m ≡ to way.0 f = sym g.1 ∙ ap (next_step from) here ∙ way.1 in
-    let next = sym (same_next g.0 way.0 m f steps) in
-    no_end fs ms g.0 last q g.2 (subst (λ s. Goes s fs last) next way.2) rest e
+    let steps : to next m ≡ to way.0 f = sym go ∙ ap (next_step from) here ∙ way.1 in
+    let there = sym (same_next next way.0 m f steps) in
+    no_end fs ms next last q g (subst (λ s. Goes s fs last) there way.2) rest e
 
 dead : (front : List Mark) (last : ParserState) (n : Counts) (rest : List Symbol)
     → Goes begin front last → HaltsAt Unexpected last n rest → NoQueryGoesOn (symbols_at front) rest
-dead front last n [] way e =
-    λ ms t is same. let r = is_query is in
-    no_end front (query_marks r.0) begin last r.0 (query_goes r.0) way (ap symbols_at r.1 ∙ same) e
-dead front last n (x ∷ rest) way e =
-    λ ms t more is same. let r = is_query is in
-    no_way front (query_marks r.0) begin last x more r.0 (query_goes r.0) way
-    (ap symbols_at r.1 ∙ same) e
+dead front last n it way e = grind (arith, is_query, no_end, query_goes, no_way)
 
 -- a query begins with what was read
 pub begins : (front : List Mark) (last : ParserState) → Goes begin front last → BeginsQuery front
@@ -322,9 +308,7 @@ first_found xs f rest r = grind (arith, begins, reached_within, fails, none_coun
 
 pub first_fault : (xs : List Symbol) (f : Fault) (rest : List Symbol) → verdict_of xs ≡ Bad f rest
     → FirstQueryFault xs f rest
-first_fault xs f rest e =
-    first_found xs f rest (subst (Found begin nothing_counted xs) e
-    (found xs begin nothing_counted fits_at_first))
+first_fault xs f rest e = grind (arith, first_found, found, fits_at_first)
 
 pub refuses : (xs : List Symbol) (f : Fault) (rest : List Symbol) (t : Tree)
     → verdict_of xs ≡ Bad f rest → Derives xs t → ⊥
@@ -336,24 +320,19 @@ same_front : (a b ms ns : List Mark) (from : ParserState) (q r : Query) → Acce
 same_front [] [] ms ns from q r g h e = refl
 same_front [] (y ∷ b) ms ns from q r g h e = cc
 same_front (x ∷ a) [] ms ns from q r g h e = cc
-same_front (x ∷ a) (y ∷ b) ms ns from q r g h e =
+same_front (x ∷ a) (y ∷ b) ms ns from q r (step {next} go g) (step {next = other} goes h) e =
     let here : x.symbol ≡ y.symbol = cc in
     let rest : symbols_at a ≡ symbols_at b = cc in
-    let steps : to g.0 x ≡ to h.0 y = sym g.1 ∙ ap (next_step from) here ∙ h.1 in
-    let head = same_mark g.0 h.0 x y steps in
-    let next = sym (same_next g.0 h.0 x y steps) in
+    let steps : to next x ≡ to other y = sym go ∙ ap (next_step from) here ∙ goes in
+    let head = same_mark next other x y steps in
+    let there = sym (same_next next other x y steps) in
     ap (λ m. m ∷ a) head ∙ ap (λ l. y ∷ l)
-    (same_front a b ms ns g.0 q r g.2 (subst (λ s. Accepts s (b ++ ns) r) next h.2) rest)
+    (same_front a b ms ns next q r g (subst (λ s. Accepts s (b ++ ns) r) there h) rest)
 
 -- fronts of the same symbols have the same nestings and parts
 pub one_front : (a b : List Mark) → BeginsQuery a → BeginsQuery b → symbols_at a ≡ symbols_at b
     → a ≡ b
-one_front a b begins_a begins_b e =
-    let f = is_query begins_a.query in
-    let g = is_query begins_b.query in
-    same_front a b begins_a.more begins_b.more begin f.0 g.0
-    (subst (λ ms. Accepts begin ms f.0) f.1 (query_goes f.0))
-    (subst (λ ms. Accepts begin ms g.0) g.1 (query_goes g.0)) e
+one_front a b begins_a begins_b e = grind (arith, is_query, same_front, query_goes)
 
 -- no text means two trees
 pub one_meaning : (bytes : List ℕ) (a b : Tree) → Means bytes a → Means bytes b → a ≡ b

@@ -1,5 +1,5 @@
 -- What the limits count of the marks of a query is counted of its tree.
-use Rattle.std.{proofs.Common.{◌≡◌, ℕ, ◌+◌, ◌≤◌, List, [], ◌∷◌, ◌++◌, length, Option, refl, subst, sym, arith, if◌then◌else◌}, proofs.lemmas.List.Sums.{sum_by-cons, sum_by_push}, specs.List.sum_by}
+use Rattle.std.{proofs.Common.{◌≡◌, ℕ, ◌+◌, ◌≤◌, List, [], ◌∷◌, ◌++◌, length, Option, refl, arith, if◌then◌else◌}, proofs.lemmas.List.Sums.{sum_by-cons, sum_by_push}, specs.List.sum_by}
 use Rattle.star_query.{specs.Tree.{Name, Expression, Condition, Test, Measure, Grouping, SortKey, Tree}, specs.Grammar.{Mark, Several, IsExpr, IsTerm, IsFactor, IsCond, IsConj, IsUnit, IsMeasure, IsItem, IsKey, IsName, IsWhere, IsGrouping, IsOrder, IsQuery, nested, bracketed}, specs.Limits.{operands_of, measure_operands, item_operands, aggregates_in, comparisons_of, where_comparisons, IsQueryWithinLimits}, specs.declared.counts.Part.Part, specs.declared.token.Additive.TheVariants.{Plus, Minus}, specs.Symbols.{Symbol, keyword, additive, sign}, specs.Maxima.limit, specs.Derives.{count_begun, Derives}, proofs.Verdicts.count_of-append}
 use Rattle.star_query.specs.declared.counts.Part.TheVariants as part
 use Rattle.star_query.specs.declared.token.Keyword.TheVariants as k
@@ -121,37 +121,22 @@ measure_aggregates w.counting = omega arith
 
 measure_numbers : {offset : ℕ} {ms : List Mark} {m : Measure Name} → IsMeasure offset ms m
     → measure_operands m ≤ count_begun part.Operand ms
-measure_numbers (w.folded {f} {ms} e) =
-    omega (arith, bracketed_same part.Operand ms, expr_operands e)
-measure_numbers w.counting = omega arith
+measure_numbers it = grind (arith, bracketed_same, expr_operands)
 
 one_item : Weighs IsItem (λ i. 1) part.Item
-one_item _ _ w.plain = omega arith
-one_item _ _ (w.unnamed a) = measure_items a
-one_item _ _ (w.renamed {offset} {ms} {m} {n} a) =
-    omega (arith, parted part.Item ms (w.named [] n) (keyword k.As), measure_items a)
+one_item it it2 it3 = grind (arith, measure_items, parted)
 
 item_aggregates : Weighs IsItem aggregates_in part.Aggregate
-item_aggregates _ _ w.plain = omega arith
-item_aggregates _ _ (w.unnamed a) = measure_aggregates a
-item_aggregates _ _ (w.renamed {offset} {ms} {m} {n} a) =
-    omega (arith, parted part.Aggregate ms (w.named [] n) (keyword k.As), measure_aggregates a)
+item_aggregates it it2 it3 = grind (arith, measure_aggregates, parted)
 
 item_numbers : Weighs IsItem item_operands part.Operand
-item_numbers _ _ w.plain = omega arith
-item_numbers _ _ (w.unnamed a) = measure_numbers a
-item_numbers _ _ (w.renamed {offset} {ms} {m} {n} a) =
-    omega (arith, parted part.Operand ms (w.named [] n) (keyword k.As), measure_numbers a)
+item_numbers it it2 it3 = grind (arith, measure_numbers, parted)
 
 one_column : Weighs (IsName (part.GroupColumn ∷ [])) (λ n. 1) part.GroupColumn
-one_column ms n same =
-    let one : 1 ≤ count_begun part.GroupColumn (w.named (part.GroupColumn ∷ []) n) =
-    omega arith in subst (λ l. 1 ≤ count_begun part.GroupColumn l) (sym same) one
+one_column ms n same = grind arith
 
 one_key : Weighs IsKey (λ k. 1) part.SortKey
-one_key _ _ w.unmarked = omega arith
-one_key _ _ w.ascending = omega arith
-one_key _ _ w.descending = omega arith
+one_key it it2 it3 = grind arith
 
 -- ---- clauses
 
