@@ -148,7 +148,7 @@ token_front offset word rest x (a_word is w e same) over =
     word_front offset word rest is (subst (λ y. is_whole y rest ≡ true) (sym found) over)
     ∙ ap (λ y. token y (length word)) found
 token_front offset word rest x (a_name is none same) over = grind (arith, name_of, word_front)
-token_front offset word rest x (a_number n e same) over = grind (arith, true, number_front, length)
+token_front offset word rest x (a_number n e same) over = grind (arith, number_front)
 token_front offset word rest x (a_text t printed cut same) over = grind (arith, text_front)
 token_front offset word rest x (a_sign there) over = sign_front offset word x rest there over
 

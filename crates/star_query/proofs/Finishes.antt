@@ -187,7 +187,7 @@ cond_end_passed a it q e = grind arith
 
 columns_end_passed : (f : Filtered) (h : Option Hiding) (is : Several Name) (q : Query)
     → query_at_end (columns_had f h is) ≡ Some q → passed (columns_had f h is) [] ≡ query_marks q
-columns_end_passed f it is q e = grind (arith, false)
+columns_end_passed f it is q e = grind arith
 
 -- what was read where a query ends
 pub end_passed : (from : ParserState) (q : Query) → query_at_end from ≡ Some q

@@ -233,8 +233,30 @@ keys_moves : (g : Grouped) (ks : Several Key) (x : Symbol)
 keys_moves g ks it = grind (arith, moves, moves_along, done_moves)
 
 all_moves : (from : ParserState) (x : Symbol) → IfStep (next_step from x) (Moves from x)
-all_moves it it2 =
-    grind (arith, moves, several-extended, give_factor_passed, same_depth, joined_expr_passed, close_moves, moves_along, items_moves, filtered_moves, relation_passed, give_unit_passed, lit_moves, give_lit_passed, conj_depth_around, joined_cond_passed, cond_moves, column_moves, grouped_moves, keys_moves, done_moves)
+all_moves from x =
+    grind (
+      arith,
+      moves,
+      several-extended,
+      give_factor_passed,
+      same_depth,
+      joined_expr_passed,
+      close_moves,
+      moves_along,
+      items_moves,
+      filtered_moves,
+      relation_passed,
+      give_unit_passed,
+      lit_moves,
+      give_lit_passed,
+      conj_depth_around,
+      joined_cond_passed,
+      cond_moves,
+      column_moves,
+      grouped_moves,
+      keys_moves,
+      done_moves,
+    )
 
 pub step_moves : (from : ParserState) (x : Symbol) (st : Step) → next_step from x ≡ Some st
     → Moves from x st

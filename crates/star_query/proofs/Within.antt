@@ -124,19 +124,19 @@ measure_numbers : {offset : ℕ} {ms : List Mark} {m : Measure Name} → IsMeasu
 measure_numbers it = grind (arith, bracketed_same, expr_operands)
 
 one_item : Weighs IsItem (λ i. 1) part.Item
-one_item it it2 it3 = grind (arith, measure_items, parted)
+one_item ms i it = grind (arith, measure_items, parted)
 
 item_aggregates : Weighs IsItem aggregates_in part.Aggregate
-item_aggregates it it2 it3 = grind (arith, measure_aggregates, parted)
+item_aggregates ms i it = grind (arith, measure_aggregates, parted)
 
 item_numbers : Weighs IsItem item_operands part.Operand
-item_numbers it it2 it3 = grind (arith, measure_numbers, parted)
+item_numbers ms i it = grind (arith, measure_numbers, parted)
 
 one_column : Weighs (IsName (part.GroupColumn ∷ [])) (λ n. 1) part.GroupColumn
 one_column ms n same = grind arith
 
 one_key : Weighs IsKey (λ k. 1) part.SortKey
-one_key it it2 it3 = grind arith
+one_key ms k it = grind arith
 
 -- ---- clauses
 
