@@ -12,13 +12,7 @@ by_bool false f g = g refl
 
 number-bump : (q p : Part) (n : Counts)
     → count_of_part (bump q n) p ≡ count_of_part n p + (if same_part p q then 1 else 0)
-number-bump Item Item n = refl
-number-bump Aggregate Aggregate n = refl
-number-bump GroupColumn GroupColumn n = refl
-number-bump SortKey SortKey n = refl
-number-bump Comparison Comparison n = refl
-number-bump Operand Operand n = refl
-number-bump _ _ n = omega arith
+number-bump it it2 n = grind arith
 
 pub number-plus : (ps : List Part) (n : Counts) (p : Part)
     → count_of_part (plus n ps) p ≡ count_of_part n p + among p ps
@@ -39,13 +33,7 @@ over_some n (p ∷ ps) e =
     (λ other. over_some n ps (rw other at e))
 
 same-part : (p q : Part) → same_part p q ≡ true → p ≡ q
-same-part Item Item e = refl
-same-part Aggregate Aggregate e = refl
-same-part GroupColumn GroupColumn e = refl
-same-part SortKey SortKey e = refl
-same-part Comparison Comparison e = refl
-same-part Operand Operand e = refl
-same-part _ _ e = cc
+same-part it it2 e = grind arith
 
 not_over_at : (n : Counts) (ps : List Part) (p : Part) → is_over n ps ≡ false → 0 < among p ps
     → count_of_part n p ≤ limit p
@@ -85,6 +73,4 @@ one_too_many p n e = grind (arith, number-bump-self)
 
 pub one_allowed : (p : Part) (n : Counts) → count_of_part n p < limit p
     → is_over (plus n (p ∷ [])) (p ∷ []) ≡ false
-one_allowed p n e =
-    let within : count_of_part (bump p n) p ≤ limit p = omega (arith, number-bump-self p n) in
-    rw (not_below (limit p) (count_of_part (bump p n) p) within) refl
+one_allowed p n e = grind (arith, number-bump-self, not_below)

@@ -70,15 +70,8 @@ bad_token : {A : Type 0} (symbol : A → Symbol) (NoMemory : Type 0) (Is IsNo : 
     → (next : ParserState) × (next_step from x ≡ to next (first ps d x)))
     → (IsNo old.rest → verdict old from ≡ Bad Unexpected old.rest)
     → ReadsToken symbol NoMemory Is IsNo ps old new (Err e) → EndsBad e new (verdict old from)
-bad_token symbol NoMemory Is IsNo ps d from old new errors.OutOfMemory deep goes others b = tt
-bad_token symbol NoMemory Is IsNo ps d from old new (errors.Fault Unexpected) deep goes others b =
-    bad_here Unexpected old new _ (ap (λ s. s.rest) b.1) (others b.0)
-bad_token symbol NoMemory Is IsNo ps d from old new (errors.Fault TooDeep) deep goes others b =
-    absurd b
-bad_token symbol NoMemory Is IsNo ps d from old new (errors.Fault TooMany) deep goes others b =
-    bad_here TooMany old new _ b.1
-    (too_many old ps d from b.0 deep
-    (λ x h. let l = head_is old.rest x h in goes x l.0 (subst Is l.1 b.2)))
+bad_token symbol it it2 it3 ps d from old new it4 deep goes others b =
+    grind (arith, bad_here, too_many, head_is)
 
 pub bad_name : (ps : List Part) (d : ℕ) (from : ParserState) (old new : Spot) (e : ParseError)
     → d ≤ 32 → ((t : List ℕ) (p : ℕ)
@@ -253,7 +246,4 @@ pub along : {A T P H : Type 0} (view : A → T) (tree : P → T) (IsHole : H →
     → ((h : H) → IsHole h → verdict old (wanted h) ≡ verdict mid (other h))
     → ReadsPhrase view tree IsHole other given mid new r
     → ReadsPhrase view tree IsHole wanted given old new r
-along view tree IsHole wanted other given old mid new (Ok x) f r =
-    (r.0, r.1, λ h q. f h q ∙ r.2 h q)
-along view tree IsHole wanted other given old mid new (Err e) f b =
-    λ h q. bad_along e new _ _ (f h q) (b h q)
+along view tree it wanted other given old mid new it2 f it3 = grind arith

@@ -96,23 +96,14 @@ pub read_compare_between :
     → Takes old mid (keyword k.Between) []
     → ReadsNamed (λ h. lit_wanted (low h (name_view i))) mid new answer
     → ReadsNamed (λ h. unit_named h (name_view i)) old new answer
-read_compare_between old mid new i answer t reads =
-    along condition_view unit_tree (λ h. unit_depth h ≤ 32) (λ h. unit_named h (name_view i))
-    (λ h. lit_wanted (low h (name_view i))) give_unit old mid new answer
-    (λ h deep. takes old mid _ [] (unit_depth h) (unit_named h (name_view i))
-    (lit_wanted (low h (name_view i))) t deep refl) reads
+read_compare_between old mid new i answer t reads = grind (arith, along, takes)
 
 pub read_compare_related :
     (old here mid new : Spot) (i : Name) (q : Relation)
     (answer : Result (Condition Test) ParseError) → here ≡ old → Takes here mid (relation q) []
     → ReadsNamed (λ h. behind_relation h (name_view i) q) mid new answer
     → ReadsNamed (λ h. unit_named h (name_view i)) old new answer
-read_compare_related old here mid new i q answer same t reads =
-    along condition_view unit_tree (λ h. unit_depth h ≤ 32) (λ h. unit_named h (name_view i))
-    (λ h. behind_relation h (name_view i) q) give_unit old mid new answer
-    (λ h deep. ap (λ s. verdict s (unit_named h (name_view i))) (sym same)
-    ∙ takes here mid _ [] (unit_depth h) (unit_named h (name_view i))
-    (behind_relation h (name_view i) q) t deep refl) reads
+read_compare_related old here mid new i q answer same t reads = grind (arith, along, takes)
 
 pub read_comparison : (old mid new : Spot) (i : Name) (answer : Result (Condition Test) ParseError)
     → Takes old mid (ident (name_view i)) (part.Comparison ∷ [])

@@ -150,6 +150,4 @@ sign_at offset b bs text found is cut no_blank no_letter no_digit no_quote =
 
 pub fault_of_cut : (bytes : List ℕ) (fault : QueryFault) → cut_of bytes ≡ Err fault
     → IsCutFault bytes fault
-fault_of_cut bytes OutOfMemory e = tt
-fault_of_cut bytes TooLong e = e
-fault_of_cut bytes _ e = e
+fault_of_cut bytes it e = grind arith
