@@ -31,7 +31,7 @@ fault_of_text fault = Program fault
 
 abbrev pub fault_of_refusal : Refusal → EngineFault
 fault_of_refusal refusal.OutOfMemory = OutOfMemory
-fault_of_refusal told = Refused told
+fault_of_refusal other = Refused other
 
 abbrev pub fault_of_trial : TrialFault → EngineFault
 fault_of_trial trial.OutOfMemory = OutOfMemory

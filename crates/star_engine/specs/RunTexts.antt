@@ -56,10 +56,10 @@ IsFileRunOver visits database file run =
 
 -- the text whose three pieces a call returns
 abbrev pub run_text_of : RunOutput → RunText
-run_text_of told = record {
-  quoted = string_bytes told.quoted;
-  report = told.report.items;
-  done = string_bytes told.done;
+run_text_of output = record {
+  quoted = string_bytes output.quoted;
+  report = output.report.items;
+  done = string_bytes output.done;
 }
 
 -- why a file has no such line: it is read first, then checked

@@ -171,11 +171,11 @@ impl Merging {
 
     // The same, with groups of equal keys merged if there are many.
     fn compacted(self, alloc: Global) -> Result<Merging, MergeFault>
-        ensures merged { (s : Shape) (count : ℕ) (gs : List Aggregate) (told : List (GroupRow Value))
-            → HasMerged s count gs told self
-            → IfOk result (HasMerged s count gs told) }
-        ensures small { (s : Shape) (count : ℕ) (gs : List Aggregate) (told : List (GroupRow Value))
-            → HasMerged s count gs told self → AreSmall told
+        ensures merged { (s : Shape) (count : ℕ) (gs : List Aggregate) (plain : List (GroupRow Value))
+            → HasMerged s count gs plain self
+            → IfOk result (HasMerged s count gs plain) }
+        ensures small { (s : Shape) (count : ℕ) (gs : List Aggregate) (plain : List (GroupRow Value))
+            → HasMerged s count gs plain self → AreSmall plain
             → IfErr result (λ fault. fault ≡ OutOfMemory) }
     {
         let Merging {
@@ -207,11 +207,11 @@ impl Merging {
 
     // Adds plain groups.
     fn with_rows(self, alloc: Global, rows: &FlatRows) -> Result<Merging, MergeFault>
-        ensures merged { (s : Shape) (count : ℕ) (gs : List Aggregate) (told : List (GroupRow Value))
-            → HasMerged s count gs told self
-            → IfOk result (HasMerged s count gs (told ++ map (group_of count) rows.now)) }
-        ensures small { (s : Shape) (count : ℕ) (gs : List Aggregate) (told : List (GroupRow Value))
-            → HasMerged s count gs told self → AreSmall (told ++ map (group_of count) rows.now)
+        ensures merged { (s : Shape) (count : ℕ) (gs : List Aggregate) (plain : List (GroupRow Value))
+            → HasMerged s count gs plain self
+            → IfOk result (HasMerged s count gs (plain ++ map (group_of count) rows.now)) }
+        ensures small { (s : Shape) (count : ℕ) (gs : List Aggregate) (plain : List (GroupRow Value))
+            → HasMerged s count gs plain self → AreSmall (plain ++ map (group_of count) rows.now)
             → IfErr result (λ fault. fault ≡ OutOfMemory) }
     {
         let mut more = self;
@@ -227,11 +227,11 @@ impl Merging {
         sorts: &[SortKey],
         items: &[GroupColumn],
     ) -> Result<CellRows, MergeFault>
-        ensures merged { (s : Shape) (count : ℕ) (gs : List Aggregate) (told : List (GroupRow Value))
-            → HasMerged s count gs told self → AreOfShape count gs told
-            → IfOk result (IsMergedRows s count gs sorts.now items.now told) }
-        ensures small { (s : Shape) (count : ℕ) (gs : List Aggregate) (told : List (GroupRow Value))
-            → HasMerged s count gs told self → AreSmall told
+        ensures merged { (s : Shape) (count : ℕ) (gs : List Aggregate) (plain : List (GroupRow Value))
+            → HasMerged s count gs plain self → AreOfShape count gs plain
+            → IfOk result (IsMergedRows s count gs sorts.now items.now plain) }
+        ensures small { (s : Shape) (count : ℕ) (gs : List Aggregate) (plain : List (GroupRow Value))
+            → HasMerged s count gs plain self → AreSmall plain
             → IfErr result (λ fault. fault ≡ OutOfMemory) }
     {
         let Merging {

@@ -99,14 +99,14 @@ ReachNoFarther groups before =
     → reach_at keys index groups ≤ reach_at keys index before
 
 -- the groups so far, of some given groups
-pub record HasMerged (s : Shape) (keys : ℕ) (gs : List Aggregate) (told : List (GroupRow Value))
+pub record HasMerged (s : Shape) (keys : ℕ) (gs : List Aggregate) (plain : List (GroupRow Value))
     (merging : Merging) : Type 0 where
   pub by_shape : merging.shape ≡ s
   pub count : merging.count ≡ keys
   pub aggregates : merging.aggregates.items ≡ gs
-  pub alike : AddUpAlike value_cmp gs merging.groups.items (addends s keys gs told)
+  pub alike : AddUpAlike value_cmp gs merging.groups.items (addends s keys gs plain)
   pub within : (keys : List (Option Value)) (index : ℕ)
-      → reach_at keys index merging.groups.items ≤ reach index told
+      → reach_at keys index merging.groups.items ≤ reach index plain
 
 -- neighbours of the last of some groups are merged, in reverse order
 pub record HasJoined (gs : List Aggregate) (groups rest merged : List (GroupRow Value)) : Type 0
