@@ -10,8 +10,7 @@ mod runs;
 mod shell;
 
 use crate::runs::{Tally, run_pages};
-use std::io;
-use std::process::ExitCode;
+use std::{io, process::ExitCode};
 
 fn main(rt: HostRuntime) -> io::Result<ExitCode> {
     let mut tally = Tally {

@@ -2,8 +2,7 @@
 // output.
 
 use crate::printed::Printed;
-use std::alloc::Global;
-use std::io;
+use std::{alloc::Global, io};
 
 /// A command of a case.
 #[derive(Drop)]

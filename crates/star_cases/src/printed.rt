@@ -1,8 +1,7 @@
 // The output of a command.
 
 use crate::escapes::push_unescaped;
-use std::alloc::Global;
-use std::io;
+use std::{alloc::Global, io};
 
 /// The output of a command on both streams, and its exit status.
 #[derive(Drop, PartialEq, Eq)]

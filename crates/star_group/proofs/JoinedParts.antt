@@ -44,14 +44,6 @@ module _ (f : ℤ → ℤ → ℤ) where
 -- an operation that joins numbers in any order
 module _ (f : ℤ → ℤ → ℤ) (comm : (x y : ℤ) → f x y ≡ f y x)
     (assoc : (x y z : ℤ) → f (f x y) z ≡ f x (f y z)) where
-  more_left : (x : ℤ) (r s : Option ℤ) → more f x (both f r s) ≡ both f (more f x r) s
-  more_left x None s = refl
-  more_left x (Some y) None = refl
-  more_left x (Some y) (Some z) = ap Some (sym (assoc x y z))
-
-  more_right : (x : ℤ) (r s : Option ℤ) → more f x (both f r s) ≡ both f r (more f x s)
-  more_right x it s = grind (arith, ints)
-
   -- the puts that pass one of two tests, where none passes both
   apart : (number : Update → ℤ) (a b c : Update → Bool) (us : List Update)
       → ((u : Update) → c u ≡ (a u || b u)) → ((u : Update) → (a u && b u) ≡ false)
