@@ -2,7 +2,8 @@
 #![tactic(auto)]
 
 use star_cli::{Progress, StandardInput};
-use std::{io::IsTerminal, process::ExitCode};
+use std::io::IsTerminal;
+use std::process::ExitCode;
 
 fn main(rt: HostRuntime) -> ExitCode {
     let mut out = rt.stdout();

@@ -1,7 +1,8 @@
 // Commands that read and write files.
 
 use crate::escapes::push_unescaped;
-use std::{fs::OpenOptions, io::Write};
+use std::fs::OpenOptions;
+use std::io::Write;
 use std::{fs, io};
 
 // Copies the files of a folder to a new one.

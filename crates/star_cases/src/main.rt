@@ -10,7 +10,8 @@ mod runs;
 mod shell;
 
 use crate::runs::{Tally, run_pages};
-use std::{io, process::ExitCode};
+use std::io;
+use std::process::ExitCode;
 
 fn main(rt: HostRuntime) -> io::Result<ExitCode> {
     let mut tally = Tally {

@@ -2,7 +2,8 @@
 // output.
 
 use crate::printed::Printed;
-use std::{alloc::Global, io};
+use std::alloc::Global;
+use std::io;
 
 /// A command of a case.
 #[derive(Drop)]

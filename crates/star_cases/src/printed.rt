@@ -1,7 +1,8 @@
 // The output of a command.
 
 use crate::escapes::push_unescaped;
-use std::{alloc::Global, io};
+use std::alloc::Global;
+use std::io;
 
 /// The output of a command on both streams, and its exit status.
 #[derive(Drop, PartialEq, Eq)]

@@ -16,7 +16,8 @@ use star_column::{ColumnData, ColumnView, JoinIndex};
 use star_interval::Interval;
 use star_reader::TableReader;
 use star_schema::{ColumnId, Kind, Limits, Sizes, TableId, kind_of};
-use std::{alloc::Global, marker::Model};
+use std::alloc::Global;
+use std::marker::Model;
 
 /// Five sound tables. A contract sees the rows of each. No look-up allocates.
 pub struct Catalogue {

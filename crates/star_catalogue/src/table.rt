@@ -13,7 +13,8 @@ use crate::keys::KeyIndex;
 use star_column::{PackedColumn, TextColumn};
 use star_reader::{RawTable, TableReader};
 use star_schema::{ColumnId, Kind, TableId, position_of};
-use std::{alloc::Global, marker::Model};
+use std::alloc::Global;
+use std::marker::Model;
 
 /// A table in memory, by columns, with an index of its keys. A contract sees which table it is, and
 /// the list of its rows.

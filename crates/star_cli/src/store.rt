@@ -4,7 +4,9 @@ ghost use Rattle.std.specs.Prelude.{ℕ, List, Option, None, IfOk, option_map};
 ghost use Rattle.star_cli.specs.Stores.{IsOpened};
 
 use star_engine::FileFault;
-use std::{fs::File, io, rt::Files};
+use std::fs::File;
+use std::io;
+use std::rt::Files;
 
 /// Files whose bytes may be known, for proofs.
 pub trait Store: Files {

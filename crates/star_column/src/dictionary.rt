@@ -5,7 +5,8 @@ ghost use Rattle.star_schema.specs.Dictionary.{text_cmp, low_in, high_in};
 ghost use Rattle.star_column.specs.Private.Edge.{is_after};
 
 use star_flat::FlatTexts;
-use std::{cmp::Ordering, marker::Model};
+use std::cmp::Ordering;
+use std::marker::Model;
 
 /// Distinct texts in byte order.
 #[derive(Drop)]

@@ -6,7 +6,8 @@ ghost use Rattle.star_column.specs.Private.Bounds.{AreBounds};
 use crate::column::ColumnData;
 use star_flat::SignedWord;
 use star_interval::Interval;
-use std::{alloc::AllocError, marker::Model};
+use std::alloc::AllocError;
+use std::marker::Model;
 
 /// A column of numbers, seen in contracts as the list of them in the order of the rows.
 #[derive(Drop)]

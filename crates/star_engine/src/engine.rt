@@ -21,7 +21,8 @@ use star_partial::{Partial, list_tables};
 use star_reader::TableReader;
 use star_schema::Limits;
 use star_verify::{Facts, Verified};
-use std::{alloc::Global, marker::Model};
+use std::alloc::Global;
+use std::marker::Model;
 
 /// The rows of five loaded tables, and the limits of their queries. A contract sees the rows of
 /// each table, the limit on rows of the load, and the limit on visits. No call changes an engine;

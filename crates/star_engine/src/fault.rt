@@ -11,7 +11,8 @@ use star_plan::PlanFault;
 use star_program::TextFault;
 use star_query::QueryFault;
 use star_verify::Refusal;
-use std::{alloc::AllocError, fmt};
+use std::alloc::AllocError;
+use std::fmt;
 use thiserror::Error;
 
 // An error may hold the columns of a range; it is neither copied nor compared. The conversions are

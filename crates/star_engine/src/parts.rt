@@ -6,7 +6,8 @@ ghost use Rattle.star_engine.specs.Reading.{ReadingGoesOn, GoesOnByPart, came_of
 use crate::input::Input;
 use crate::reading::{FileFault, room_of};
 use star_reader::TableReader;
-use std::{alloc::Global, io::Read};
+use std::alloc::Global;
+use std::io::Read;
 
 // The buffer of a piece is cleared for each file, and there may be a thousand small ones; it stays
 // in the processor's cache. It is smaller than the 128 KiB from which on the C library maps a block

@@ -11,7 +11,8 @@ use crate::cell::{Held, shown};
 use crate::keyed::ListedRows;
 use crate::keyed::key::{ALL_HIDDEN, is_grouping};
 use star_schema::{Aggregate, Shape};
-use std::{alloc::AllocError, marker::Model};
+use std::alloc::AllocError;
+use std::marker::Model;
 
 /// The rows of a group, in storage as wide as its keys and aggregates are many. A contract sees the
 /// list of the rows.

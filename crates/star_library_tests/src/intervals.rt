@@ -2,7 +2,9 @@
 
 use crate::checks::{check_same, check_text};
 use star_interval::{Interval, Wide};
-use std::{alloc::Global, process::Abort, test::Fail};
+use std::alloc::Global;
+use std::process::Abort;
+use std::test::Fail;
 
 const LEAST: Interval = Interval {
     low: i64::MIN,

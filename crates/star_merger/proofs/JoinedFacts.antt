@@ -6,8 +6,7 @@ use Rattle.star_plan.specs.Meaning.{Row}
 use Rattle.star_partial.specs.Contents.{Contents, bounds_at, range_if}
 use Rattle.star_merger.specs.{Partials.contents_of, declared.partial.Partial.Partial, Private.Shown.{HasFacts, HasOwnFacts}, Private.Shares.{Share, contents_of_shares, share_rows}}
 use Rattle.star_merge_laws.specs.{Facts.AreFactsOf, Facts.Facts, Facts.hull_of_rows, Facts.joined_facts, Parts.with_lineorder, Tables.all_of}
-use Rattle.star_verify.specs.{Facts.AreFacts}
-use Rattle.star_verify.specs.declared.facts.Facts.{Facts as Known}
+use Rattle.star_verify.specs.{Facts.AreFacts, declared.facts.Facts.Facts as Known}
 use Rattle.star_world.specs.WorldOf.{world_of}
 
 at : (xs : List Interval) (index : ℕ) (any : Interval) → index < length xs

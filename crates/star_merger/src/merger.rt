@@ -15,7 +15,8 @@ use star_engine::EngineFault;
 use star_plan::{Plan, plan};
 use star_program::Program;
 use star_query::Query;
-use std::{alloc::Global, marker::Model};
+use std::alloc::Global;
+use std::marker::Model;
 
 /// A query whose partials are merged. It is read before any partial. A contract sees its text and
 /// its plan.

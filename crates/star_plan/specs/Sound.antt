@@ -1,6 +1,5 @@
 -- What every plan keeps.
-use Rattle.std.specs.Prelude.{◌≡◌, ℕ, ◌≤◌, nat_lt, Bool, true, ◌&&◌, ◌||◌, not as negated, List, [], ◌∷◌, length}
-use Rattle.std.specs.{List.list_all, List.list_any}
+use Rattle.std.specs.{Prelude.{◌≡◌, ℕ, ◌≤◌, nat_lt, Bool, true, ◌&&◌, ◌||◌, not as negated, List, [], ◌∷◌, length}, List.list_all, List.list_any}
 use Rattle.star_schema.specs.{declared.table.TableId.TableId, declared.table.TableId.TheVariants.Lineorder, declared.column.ColumnId.ColumnId, declared.column.Kind.Kind, declared.group.GroupColumn.GroupColumn, Schema.{is_table, kind_of, table_of}, Tables.{Value, kind_of_value}}
 use Rattle.star_plan.specs.{declared.tree.Join.Join, Joins.is_foreign, Meaning.RowCondition, Meaning.Plan, Names.same_kind}
 use Rattle.star_query.specs.{Tree.{Expression, Comparison, compare, between, Measure, fold, count}, Leaves.{of_operands, of_tests}}

@@ -5,7 +5,8 @@ ghost use Rattle.star_program.specs.{Code.code_size, Code.scan_depth, CodeOfStep
 
 use crate::op::Op;
 use star_schema::TableId;
-use std::{alloc::AllocError, marker::Model};
+use std::alloc::AllocError;
+use std::marker::Model;
 
 /// Steps in order.
 #[cycle(body)]

@@ -5,7 +5,8 @@ use crate::fault::QueryFault;
 use crate::lexer::tokens_of;
 use crate::parser::parse_tokens;
 use crate::tree::Tree;
-use std::{alloc::Global, marker::Model};
+use std::alloc::Global;
+use std::marker::Model;
 
 /// A query: its tree is the meaning of some text. Only parsing a text makes one, and contracts see
 /// it as its tree.

@@ -10,7 +10,8 @@ use crate::fault::ReadFault;
 use crate::table_reader::TableReader;
 use star_flat::{FlatNumbers, RepeatedTexts};
 use star_schema::{Kind, Limits, TableId};
-use std::{alloc::Global, marker::Model};
+use std::alloc::Global;
+use std::marker::Model;
 
 /// The rows of a table, kept by columns. A contract sees which table it is, and the list of its
 /// rows, each the list of its values.

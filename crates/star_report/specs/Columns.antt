@@ -1,6 +1,5 @@
 -- The cells of a printed column.
-use Rattle.std.specs.Prelude.{◌||◌, ◌<◌, ◌^◌, Bool, not, IsTrue, ℕ, ℤ, unsigned_abs, List, All as Each}
-use Rattle.std.specs.List.{AllZip, list_all}
+use Rattle.std.specs.{Prelude.{◌||◌, ◌<◌, ◌^◌, Bool, not, IsTrue, ℕ, ℤ, unsigned_abs, List, All as Each}, List.{AllZip, list_all}}
 use Rattle.star_schema.specs.Records.{ends_line, is_bar}
 use Rattle.star_schema.specs.Tables as table
 use Rattle.star_program.specs.declared.outcome.Cell.{Cell, TheVariants.Number, TheVariants.Text, TheVariants.All, TheVariants.Null}

@@ -1,8 +1,7 @@
 -- The output of a session: for each of its statements, and for all that a source has.
 use Rattle.std.specs.{Prelude.{◌≡◌, ◌⊎◌, ◌++◌, ℕ, List, [], ◌∷◌, Bool, true, false, Option, Result, Ok, Err, codes, if◌then◌else◌}, Io.KnownBytes.{Consumes, IsAtEnd}}
 use Rattle.star_engine.specs.{Queries.{IsExplained, IsQueryError, IsQueryQuoteOver, IsQueryRunErrorOver, IsQueryRunOver}, declared.fault.EngineFault.EngineFault, declared.fault.EngineFault.TheVariants.{Query, Write}, Answered.{Change, IsAnswered, IsUntouched}, Loads.Loaded, WithNotes.IsAnsweredWithNotes, QuoteTexts.{IsQuoteTextOver, IsQuoteErrorOver}}
-use Rattle.star_statements.specs.{Questions.asked_by, Sources.IsPastCounting, Sources.IsStatementRead, Statements.statements_of, declared.questions.Question.Question, declared.sources.ReadFault.TheVariants.Failed as ReadFailed}
-use Rattle.star_statements.specs.{declared.sources.ReadFault.TheVariants.OutOfMemory as ReadMemory}
+use Rattle.star_statements.specs.{Questions.asked_by, Sources.IsPastCounting, Sources.IsStatementRead, Statements.statements_of, declared.questions.Question.Question, declared.sources.ReadFault.TheVariants.Failed as ReadFailed, declared.sources.ReadFault.TheVariants.OutOfMemory as ReadMemory}
 use Rattle.star_service.specs.{Lines.IsFaultPrinted, Lines.IsTextPrinted, declared.sessions.Stop.Stop, declared.sessions.Stop.TheVariants.Unread, declared.sessions.Stop.TheVariants.Unwritten}
 use Rattle.star_query.specs.declared.fault.QueryFault.TheVariants as parsing
 use Rattle.star_statements.specs.declared.questions.Question.TheVariants as asked

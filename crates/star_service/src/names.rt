@@ -3,7 +3,8 @@
 ghost use Rattle.std.specs.{Prelude.◌≤◌, Prelude.Some, Prelude.encode_utf8_all, Char.Iter.escape_end, Char.Iter.escape_rest, Fmt.WritesOnOk};
 ghost use Rattle.star_service.specs.Names.{printed_letter, printed_name};
 
-use std::{char::EscapeDefault, fmt};
+use std::char::EscapeDefault;
+use std::fmt;
 
 /// A name, shown so that it stays on one line: control characters and the backslash as Rust's
 /// `escape_debug` writes them, any other character as it is.

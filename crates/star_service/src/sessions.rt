@@ -10,7 +10,8 @@ use crate::lines::{MEMORY_LINE, MEMORY_STATUS, print, print_fault};
 use star_common::{Sink, write_whole};
 use star_engine::{Engine, EngineFault, QueryFault, Question, explain_query};
 use star_statements::{Question as Statement, ReadFault, Source, question_of, read_statement};
-use std::{alloc::Global, io::Read};
+use std::alloc::Global;
+use std::io::Read;
 
 /// Why a session ended before its statements did.
 #[derive(Clone, Copy, Debug, PartialEq, Eq)]

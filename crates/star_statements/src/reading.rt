@@ -7,7 +7,8 @@ ghost use Rattle.star_statements.specs.Private.Drafts as spec;
 use crate::blanks::is_blank;
 use crate::questions::MOST_BYTES;
 use crate::sources::{ReadFault, Source};
-use std::{alloc::AllocError, io::Read};
+use std::alloc::AllocError;
+use std::io::Read;
 
 // Appends a byte to the retained text of a statement: leading blanks are dropped, and at most one
 // byte above the maximum length is retained.

@@ -4,7 +4,8 @@ ghost use Rattle.std.specs.{Prelude.{◌≡◌, [], ◌∷◌, true, false, Ok, 
 ghost use Rattle.star_common.specs.Memory.{TellsMemory};
 ghost use Rattle.star_statements.specs.{Sources.has_failed, Sources.reader_of, declared.sources.ReadFault.TheVariants.OutOfMemory};
 
-use std::{alloc::AllocError, io::Read};
+use std::alloc::AllocError;
+use std::io::Read;
 
 /// Why no statement was read.
 #[derive(Clone, Copy, Debug, PartialEq, Eq)]

@@ -7,7 +7,8 @@ ghost use Rattle.star_trial.specs.{declared.fault.Stop.TheVariants.Trap, declare
 
 use star_group::PutFault;
 use star_program::{Fault, TrapKind};
-use std::{alloc::AllocError, fmt};
+use std::alloc::AllocError;
+use std::fmt;
 
 /// Why a run does not come to its end.
 #[derive(Clone, Copy, Debug, PartialEq, Eq)]

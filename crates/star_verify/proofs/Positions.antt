@@ -1,7 +1,6 @@
 -- What is so of an instruction with which nothing is wrong by its kinds.
 use Rattle.std.proofs.Common.{◌≡◌, ℕ, Bool, false, Option, Some, None, refl}
-use Rattle.star_verify.proofs.Common.{Fault, Faulty, false, option_map, ◌||◌}
-use Rattle.star_verify.proofs.Marks.{or_none as none_or}
+use Rattle.star_verify.proofs.{Common.{Fault, Faulty, false, option_map, ◌||◌}, Marks.{or_none as none_or}}
 
 pub no_fault : (o : Option Fault) → option_map Faulty o ≡ None → o ≡ None
 no_fault None e = refl

@@ -5,7 +5,8 @@ ghost use Rattle.star_common.specs.Memory.{TellsMemory};
 ghost use Rattle.star_verify.specs.{declared.refusal.Refusal.TheVariants.OutOfMemory, RefusalTexts.refusal_text};
 
 use star_safety::Reason;
-use std::{alloc::AllocError, fmt};
+use std::alloc::AllocError;
+use std::fmt;
 
 // One case for each of the twelve lines would repeat the instruction's number in most of them, and
 // reasons are checked and proved without a number.

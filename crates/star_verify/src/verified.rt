@@ -19,7 +19,8 @@ use star_interval::Interval;
 use star_program::{MOST_AGGREGATES, MOST_GROUPS, MOST_KEYS, Program};
 use star_safety::law::admissible_programs_within_the_limit_are_not_refused;
 use star_schema::Limits;
-use std::{alloc::Global, marker::Model};
+use std::alloc::Global;
+use std::marker::Model;
 
 /// A program that is accepted over the catalogue that it borrows. A contract sees the rows of that
 /// catalogue and the parts of the program.

@@ -1,8 +1,7 @@
 -- What arguments ask for, one by one; that no folder's name is empty; and what is said of arguments
 -- that ask for nothing.
 use Rattle.std.{proofs.Common.{◌≡◌, [], ◌∷◌, Some, None, true, false, refl}, specs.Borrow.Bor, specs.Prelude.{List, codes}}
-use Rattle.clap.specs.{Values.kind_of, declared.error.Error.Error, declared.error.kind.ErrorKind.TheVariants.DisplayHelp, declared.error.kind.ErrorKind.TheVariants.DisplayVersion, declared.error.kind.ErrorKind.TheVariants.UnknownArgument}
-use Rattle.clap.specs.{declared.error.kind.ErrorKind.TheVariants.OutOfMemory as NoMemory}
+use Rattle.clap.specs.{Values.kind_of, declared.error.Error.Error, declared.error.kind.ErrorKind.TheVariants.DisplayHelp, declared.error.kind.ErrorKind.TheVariants.DisplayVersion, declared.error.kind.ErrorKind.TheVariants.UnknownArgument, declared.error.kind.ErrorKind.TheVariants.OutOfMemory as NoMemory}
 use Rattle.star_common.proofs.Tables.{Gives}
 use Rattle.star_schema.specs.{Most.most_rows, declared.limits.Limits.Limits}
 use Rattle.star_words.specs.{Requests.{Asked, HasMostRows, IsWordsFault, Word, asked, bench, check, exec, explain, limit_of, may_ask_help, names_folders, partial, query, quote, reports, sample, session, trial}, Faults.{fault_of_kind, words_fault_status, words_fault_text, words_status}, declared.fault.WordsFault.TheVariants.{EmptyFolder, NoCommand, NoTarget, NotText, OutOfMemory}, declared.request.Request.TheVariants.Answer, declared.request.Task.TheVariants.Trial}

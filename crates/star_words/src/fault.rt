@@ -6,7 +6,8 @@ ghost use Rattle.star_words.specs.{Faults.fault_of_error, Faults.words_fault_sta
 
 use clap::Error;
 use clap::error::ErrorKind;
-use std::{alloc::AllocError, fmt};
+use std::alloc::AllocError;
+use std::fmt;
 
 /// Why words ask for nothing that can be done.
 #[derive(Drop)]
