@@ -3,8 +3,7 @@ use Rattle.std.specs.{Prelude.{◌≡◌, ◌⊎◌, ℕ, Bool, true, false, Lis
 use Rattle.star_schema.specs.Database.{TableTexts}
 use Rattle.star_engine.specs.{Answered.Change, Answered.OrMemory, Loads.Loaded, Questions.Asks, QuoteTexts.IsQuoteErrorOver, QuoteTexts.is_program_file, declared.question.Question.Question}
 use Rattle.star_service.specs.{Lines.IsTextPrinted, ReportSinks.SinkChange, Reports.AreAllJobsForecast, Reports.AreAllJobsRun, Sessions.IsSession, declared.reports.Halt.Halt, declared.reports.ReportJob.ReportJob}
-use Rattle.star_words.specs.{Requests.IsRequest, Requests.IsWordsFault, declared.fault.WordsFault.WordsFault, declared.request.Merge.Merge as MergeAsked, declared.request.Partials.Partials as PartialsAsked, declared.request.Reports.Reports as ReportsAsked, declared.request.Request.TheVariants.Answer, declared.request.Request.TheVariants.Merge, declared.request.Request.TheVariants.Partial, declared.request.Request.TheVariants.Reports, declared.request.Request.TheVariants.Session, declared.request.Task.Task}
-use Rattle.star_words.specs.declared.request.Task.TheVariants.{Sample, Check, Bench, Query, Explain, Exec, Quote, Trial}
+use Rattle.star_words.specs.{Requests.IsRequest, Requests.IsWordsFault, declared.fault.WordsFault.WordsFault, declared.request.Merge.Merge as MergeAsked, declared.request.Partials.Partials as PartialsAsked, declared.request.Reports.Reports as ReportsAsked, declared.request.Request.TheVariants.Answer, declared.request.Request.TheVariants.Merge, declared.request.Request.TheVariants.Partial, declared.request.Request.TheVariants.Reports, declared.request.Request.TheVariants.Session, declared.request.Task.Task, declared.request.Task.TheVariants.{Sample, Check, Bench, Query, Explain, Exec, Quote, Trial}}
 use Rattle.star_cli.specs.{Failures.{AreReportsEnded, IsFailurePrinted, IsReadError}, Answers.IsExitOf, Stores.{AreTablesIn, IsGivenFile, Known}, FolderLoads.{AreTablesUnread, IsFolderRefused, IsLoadedFrom}, declared.failure.Failure.Failure, declared.failure.Failure.TheVariants.{NamedTwice, OfFile, OutOfMemory, Unnamed, Words}}
 
 -- ---- a task

@@ -4,8 +4,7 @@ use Rattle.star_schema.specs.{declared.table.TableId.TableId, declared.column.Co
 use Rattle.star_interval.specs.Range.{is_i64}
 use Rattle.star_query.specs.{Tree.{Comparison, Expression, Measure, constant, add, sub, mul, or, and, not, compare, between, test, count, fold}, declared.token.Relation.Relation, Spelled.{has_few_digits, is_printable_text}}
 use Rattle.star_plan.specs.{declared.tree.Join.Join, Meaning.RowCondition, Sound.joins_table}
-use Rattle.star_program.specs.declared.op.Operation.TheVariants.{Binary, Const, Edge as edge_of, Find, Load, Not, Within}
-use Rattle.star_program.specs.{declared.op.Edge.Edge, declared.op.Edge.TheVariants.High, declared.op.Edge.TheVariants.Low, declared.op.Operation.Operation, declared.op.Operator.Operator, Code.Code, World.is_text}
+use Rattle.star_program.specs.{declared.op.Operation.TheVariants.{Binary, Const, Edge as edge_of, Find, Load, Not, Within}, declared.op.Edge.Edge, declared.op.Edge.TheVariants.High, declared.op.Edge.TheVariants.Low, declared.op.Operation.Operation, declared.op.Operator.Operator, Code.Code, World.is_text}
 use Rattle.star_compile_laws.specs.Compiled.{Env, Rest, beside, column_code, condition_code, foreign_of, test_code, between_code, write}
 use Rattle.star_query.specs.declared.token.Relation.TheVariants as sign
 use Rattle.star_program.specs.declared.op.Operator.TheVariants as operator

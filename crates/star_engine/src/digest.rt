@@ -12,18 +12,23 @@ fn word_at(catalogue: &Catalogue, column: ColumnId, least: i64, row: u32) -> u64
     requires { row < length (rows_in catalogue.now (table_of column)) }
 {
     match kind_of(column) {
-        Kind::Number => catalogue.number(column, row).wrapping_sub(least) as u64,
+        Kind::Number => catalogue
+            .number(column, row)
+            .wrapping_sub(least)
+            .cast_unsigned(),
         Kind::Text => catalogue.code(column, row) as u64,
     }
 }
 
 // Takes one byte of the word of each row, 256 rows at once: calls for a few bytes each would cost
 // more than their digest. The bytes after the last row are those of earlier rows.
-fn take_byte(digest: &mut Sha256, catalogue: &Catalogue, column: ColumnId, least: i64, shift: u32) {
+fn take_byte(digest: &mut Sha256, catalogue: &Catalogue, column: ColumnId, least: i64, byte: usize)
+    requires { byte < 8 }
+{
     let mut block = [0u8; 256];
     for row in 0..catalogue.rows(table_of(column)) {
         let index = row as usize % 256;
-        block[index] = (word_at(catalogue, column, least, row) >> shift) as u8;
+        block[index] = word_at(catalogue, column, least, row).to_le_bytes()[byte];
         if index == 255 {
             digest.update(&block[..]);
         }
@@ -35,10 +40,12 @@ fn take_byte(digest: &mut Sha256, catalogue: &Catalogue, column: ColumnId, least
 fn take_words(digest: &mut Sha256, catalogue: &Catalogue, column: ColumnId, least: i64, span: u64) {
     digest.update(&least.to_le_bytes()[..]);
     digest.update(&span.to_le_bytes()[..]);
-    for byte in 0..8u32 {
-        if span >> (8 * byte) > 0 {
-            take_byte(digest, catalogue, column, least, 8 * byte);
+    let mut rest = span;
+    for byte in 0..8 {
+        if rest > 0 {
+            take_byte(digest, catalogue, column, least, byte);
         }
+        rest >>= 8;
     }
 }
 
@@ -56,7 +63,7 @@ fn take_column(digest: &mut Sha256, catalogue: &Catalogue, column: ColumnId) {
     match kind_of(column) {
         Kind::Number => {
             let bounds = catalogue.bounds(column);
-            let span = bounds.high.wrapping_sub(bounds.low) as u64;
+            let span = bounds.high.wrapping_sub(bounds.low).cast_unsigned();
             take_words(digest, catalogue, column, bounds.low, span);
         }
         Kind::Text => {

@@ -8,8 +8,7 @@ use Rattle.star_program.specs.declared.spelling.fault.TextFault.TheVariants.{Bad
 use Rattle.star_catalogue.specs.declared.fault.LoadFault.TheVariants.{DuplicateKey}
 use Rattle.star_verify.specs.declared.refusal.Refusal.TheVariants.{TooCostly}
 use Rattle.star_trial.specs.declared.fault.TrialFault.TheVariants.{Limit}
-use Rattle.star_statements.specs.declared.questions.Question.TheVariants.{Explain as Explained, Nothing, Query as Asked, Quote as Quoted, TooLong}
-use Rattle.star_statements.specs.{Blanks.without_blanks, Questions.asked_by_text, Sources.IsPastCounting, Statements.ends_statement, Statements.joined_to_first, Statements.statement_lines, Statements.statements_in, declared.sources.ReadFault.TheVariants.Failed, declared.sources.ReadFault.TheVariants.OutOfMemory as NoMemory}
+use Rattle.star_statements.specs.{declared.questions.Question.TheVariants.{Explain as Explained, Nothing, Query as Asked, Quote as Quoted, TooLong}, Blanks.without_blanks, Questions.asked_by_text, Sources.IsPastCounting, Statements.ends_statement, Statements.joined_to_first, Statements.statement_lines, Statements.statements_in, declared.sources.ReadFault.TheVariants.Failed, declared.sources.ReadFault.TheVariants.OutOfMemory as NoMemory}
 use Rattle.star_engine.specs.{declared.fault.EngineFault.TheVariants.{Load, OutOfMemory, Plan, Program, Query, Refused, Trial, Write}, Queries.{IsExplained, IsQueryError, IsQueryQuote, IsQueryQuoteOver, IsQueryRun, IsQueryRunError, IsQueryRunErrorOver, IsQueryRunOver}, declared.fault.EngineFault.EngineFault, Answered.{Change, HasGained, HasGainedPart, IsAnswered, OrMemory}, Bench.{AllFit, IsBench}, Executions.{IsQuoteOf, IsRunOf, IsRunError}, Loads.{IsLoadError, Loaded, loaded_of}, QuoteTexts.{IsQuoteErrorOver, IsQuoteTextOver}, RunTexts.IsForecastOver, WithNotes.IsAnsweredWithNotes}
 use Rattle.star_service.specs.{Reports.{AreAllJobsForecast, AreAllJobsRun, AreJobsForecast, AreJobsRun, IsForecastLine, IsJobForecast, IsJobRun, IsRefusedLine, IsReportStored, IsReportUnstored, named_line}, Sessions.{AreAllAnswered, AreRounds, AreStatementsRun, IsAnswerTo, IsLineEnded, IsReportEnded, IsReported, IsRound, IsSession, IsSessionEnded, IsStatementUnread, IsStepEnded, IsUnwritten, may_go_on, parting_of}, ReportSinks.{Adds, HasFailedAt, HasStoredNone, IsStoreError, StoredReport, HaveSameReports, SinkChange, sink_change}, Lines.{IsFaultPrinted, IsTextPrinted, fault_line, fault_status}, declared.reports.Halt.Halt, declared.reports.ReportJob.ReportJob, declared.sessions.Stop.TheVariants.{Unread, Unwritten}}
 use Rattle.star_cli.specs.{Answers.{IsBenched, IsEnded, IsExecuted, IsExplanation, IsGivenOf, IsListed, IsListedAndBenched, IsNoneRefused, IsOfTables, IsQueried, IsQuoted, IsTried, none_refused}, Failures.{AreReportsEnded, IsFailurePrinted, IsPrintedOn, IsTextOf, failure_of_halt, status_of}, FolderLoads.{AreTablesUnread, IsFolderRefused, IsFolderUnread, IsLoadedFrom}, Stores.{AreTablesIn, ArePartsFrom, IsAt, IsFile, IsGivenFile, IsTableFile, IsTextIn, IsWhole, AreParts, Known, part_name, path_in, table_name}}

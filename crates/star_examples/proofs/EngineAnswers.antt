@@ -11,8 +11,7 @@ use Rattle.star_safety.specs.Admissible.{Refused as Reason, TooCostly as Costly}
 use Rattle.star_verify.specs.{declared.refusal.Refusal.Refusal, declared.refusal.Refusal.TheVariants.TooCostly, RefusalTexts.refusal_text, Views.refusal_view}
 use Rattle.star_query_meaning.specs.Reports.{IsReport}
 use Rattle.star_compile_laws.specs.{Judged.IsOverflow, Wide.turn_wide}
-use Rattle.star_engine.specs.declared.fault.EngineFault.TheVariants.{OutOfMemory, Load, Plan as Names, Program, Query, Refused, Write}
-use Rattle.star_engine.specs.{Answered.{Change, HasGained, HasGainedPart, HasWritten, IsAnswered, IsBrokenOff, IsRefused, IsWritten, OrMemory, change}, Executions.{IsAcceptedWithin, IsProgramRun, IsQuoteOver, IsRunErrorOver, IsRunOver, quote_over}, Loads.{HoldsOfFile, IsLoadError, IsLoadFault, IsProgram, IsProgramError, IsProgramInputError, IsProgramOf}, WithNotes.{HasGainedQuote, HasWrittenRun, IsAnsweredWithNotes, IsRunBrokenOff, IsRunRefused, IsRunUnwritten, RunText}, Queries.{FitsRows, IsPlanFault, IsQuery, IsQueryError, IsQueryFault, IsQueryInputError, IsQueryQuoteOver, IsQueryRefusal, IsQueryRunErrorOver, IsQueryRunOver, fact_rows}, RunTexts.{IsFileRunOver, IsForecastErrorOver, IsForecastOver, IsProgramForecast, IsQueryForecast}, declared.fault.EngineFault.EngineFault, declared.input.Input.Input, declared.thirteen.BenchmarkQuery.BenchmarkQuery, declared.thirteen.BenchmarkQuery.TheVariants.Q11, Bench.{AreSections, IsFinding, IsSection, named_quote, refusal_line}, Notes.{counts_line, quote_line}, Thirteen.query_name, Questions.{IsProgramOfKind, IsProgramOfQuery}, QuoteTexts.{IsQuoteError, IsQuoteErrorOver, IsQuoteTextOver, is_program_file}, Reading.{IsFresh, came_of, has_failed, reads_of}}
+use Rattle.star_engine.specs.{declared.fault.EngineFault.TheVariants.{OutOfMemory, Load, Plan as Names, Program, Query, Refused, Write}, Answered.{Change, HasGained, HasGainedPart, HasWritten, IsAnswered, IsBrokenOff, IsRefused, IsWritten, OrMemory, change}, Executions.{IsAcceptedWithin, IsProgramRun, IsQuoteOver, IsRunErrorOver, IsRunOver, quote_over}, Loads.{HoldsOfFile, IsLoadError, IsLoadFault, IsProgram, IsProgramError, IsProgramInputError, IsProgramOf}, WithNotes.{HasGainedQuote, HasWrittenRun, IsAnsweredWithNotes, IsRunBrokenOff, IsRunRefused, IsRunUnwritten, RunText}, Queries.{FitsRows, IsPlanFault, IsQuery, IsQueryError, IsQueryFault, IsQueryInputError, IsQueryQuoteOver, IsQueryRefusal, IsQueryRunErrorOver, IsQueryRunOver, fact_rows}, RunTexts.{IsFileRunOver, IsForecastErrorOver, IsForecastOver, IsProgramForecast, IsQueryForecast}, declared.fault.EngineFault.EngineFault, declared.input.Input.Input, declared.thirteen.BenchmarkQuery.BenchmarkQuery, declared.thirteen.BenchmarkQuery.TheVariants.Q11, Bench.{AreSections, IsFinding, IsSection, named_quote, refusal_line}, Notes.{counts_line, quote_line}, Thirteen.query_name, Questions.{IsProgramOfKind, IsProgramOfQuery}, QuoteTexts.{IsQuoteError, IsQuoteErrorOver, IsQuoteTextOver, is_program_file}, Reading.{IsFresh, came_of, has_failed, reads_of}}
 
 -- ---- sinks: the bytes, and whether a write has failed
 

@@ -1,8 +1,7 @@
 -- What every plan keeps, and when it fits the sample.
 use Rattle.std.{proofs.Common.{◌≡◌, ◌≤◌, ◌^◌, ℕ, ℤ, Bool, true, false, List, [], ◌∷◌, Some, None, length, pos, refl}, specs.Prelude.{IsTrue, codes, neg_ℤ, replicate, sum_by}, specs.List.list_all}
 use Rattle.star_common.proofs.Tables.{Gives, Gives2}
-use Rattle.star_schema.specs.{declared.column.ColumnId.TheVariants.{CCustkey, DDatekey, DYear, LoDiscount, LoExtendedprice, LoLinenumber, LoOrderdate, LoOrderkey, LoQuantity, LoRevenue, LoShipmode, LoSupplycost, LoTax, PBrand1, PSize}, declared.table.Key.TheVariants.Two, declared.table.TableId.TheVariants.{Customer, Date, Part, Lineorder}, declared.column.ColumnId.ColumnId, Schema.{position_of, table_of}, Tables.{Number, Text}}
-use Rattle.star_schema.specs.{declared.group.GroupColumn.TheVariants.Key, declared.group.GroupColumn.TheVariants.Aggregate, Bounds.greatest as greatest_number, Bounds.least as least_number, Bounds.numbers_at, Columns.bounds_in, Records.pieces, Schema.column_of, Schema.columns_of}
+use Rattle.star_schema.specs.{declared.column.ColumnId.TheVariants.{CCustkey, DDatekey, DYear, LoDiscount, LoExtendedprice, LoLinenumber, LoOrderdate, LoOrderkey, LoQuantity, LoRevenue, LoShipmode, LoSupplycost, LoTax, PBrand1, PSize}, declared.table.Key.TheVariants.Two, declared.table.TableId.TheVariants.{Customer, Date, Part, Lineorder}, declared.column.ColumnId.ColumnId, Schema.{position_of, table_of}, Tables.{Number, Text}, declared.group.GroupColumn.TheVariants.Key, declared.group.GroupColumn.TheVariants.Aggregate, Bounds.greatest as greatest_number, Bounds.least as least_number, Bounds.numbers_at, Columns.bounds_in, Records.pieces, Schema.column_of, Schema.columns_of}
 use Rattle.star_interval.specs.Range.{Range, is_i64, only}
 use Rattle.star_query.specs.{Leaves.is_so, Tree.{Expression, Name, Tree, add, and, column, constant, count, mul, not, or, sub, test}, declared.token.Relation.TheVariants.Equal, Limits.{comparisons_of, measure_operands, operands_of}, Spelled.{has_few_digits, is_name, is_printable_text}}
 use Rattle.star_plan.specs.{Sound.{IsSoundPlan, are_distinct, condition_is_sound, expression_is_sound, in_scope, is_group_column, measure_is_sound}, declared.tree.Join.Join, Fits.{Fits, expression_range, measure_fits, nodes_fit}, Joins.{is_foreign, is_joined, is_lone_key, joins}, Limits.IsPlanWithinLimits, Meaning.{Plan, RowCondition, value_in, value_number}, Names.{column_called, is_of}, Spelled.{IsSpelledPlan, condition_is_spelled, expression_is_spelled, measure_is_spelled}}

@@ -5,10 +5,9 @@ use Rattle.star_schema.specs.{Groups.GroupRow, Tables.Value, declared.column.Col
 use Rattle.star_schema.specs.Tables as value
 use Rattle.star_schema.specs.declared.group.GroupColumn.TheVariants as column
 use Rattle.star_program.specs.declared.outcome.Cell.TheVariants as cell
-use Rattle.star_program.specs.{Code.{Code, Each, Stop, Then, code_size, scan_depth}, Keys.same_keys, Reads.IsTaken, RowCells.cell_of, declared.op.Op.TheVariants.Keep, declared.value.Kind.Kind, Values.{flag_read, key_read, number_read, register_kind, row_read}, Text.FirstFaults.{FirstTextFault, IsFirstTextFault, begins_report}, Text.Numerals.constant_of, declared.spelling.fault.TextFault.TextFault, declared.spelling.fault.TextFault.TheVariants.OutOfMemory}
+use Rattle.star_program.specs.{Code.{Code, Each, Stop, Then, code_size, scan_depth}, Keys.same_keys, Reads.IsTaken, RowCells.cell_of, declared.op.Op.TheVariants.Keep, declared.value.Kind.Kind, Values.{flag_read, key_read, number_read, register_kind, row_read}, Text.FirstFaults.{FirstTextFault, IsFirstTextFault, begins_report}, Text.Numerals.constant_of, declared.spelling.fault.TextFault.TextFault, declared.spelling.fault.TextFault.TheVariants.OutOfMemory, declared.key.KeyValue.TheVariants.{Code as code, Number as number}}
 use Rattle.star_program.specs.declared.value.Kind.TheVariants as kind
 use Rattle.star_program.specs.declared.value.Value.TheVariants as in_register
-use Rattle.star_program.specs.declared.key.KeyValue.TheVariants.{Code as code, Number as number}
 
 -- 19 digits after a minus, and no more
 small_texts : Gives constant_of (

@@ -1,7 +1,6 @@
 -- The rows of a group: each has its keys, no two have the same, and they agree on what is NULL.
 use Rattle.std.{proofs.Common.{◌≡◌, ◌<◌, ⊎_elim, inl, inr, ℕ, zero, suc, ◌+◌, Bool, true, false, true≢false, cond, ℤ, List, [], ◌∷◌, Option, Some, None, length, get_or, map, arith, ap, subst, sym, refl, ◌∙◌}, proofs.lemmas.List.{get_or-map, length-map, length-replicate}, proofs.lemmas.List.Sorted.{Contains-permutation, IsPermutation-sym}, proofs.lemmas.Map.Made.IsDistinct-from_AllPairs, proofs.lemmas.Option.slice_get-get_or, specs.Prelude.{IsPermutation, replicate}, specs.List.{AllByRecursion, Contains, filter}, specs.Option.is_some, specs.declared.cmp.Ordering.Ordering}
-use Rattle.star_schema.specs.Groups.{AreGroups, Entry, GroupRow as Row, IsGroup, aggregate, belongs, joined, joined_with, members, totals_from}
-use Rattle.star_schema.specs.{declared.group.Aggregate.Aggregate, declared.group.Aggregate.TheVariants.Sum, declared.group.Aggregate.TheVariants.Count, declared.group.Aggregate.TheVariants.Min, declared.group.Aggregate.TheVariants.Max, declared.group.Shape.Shape}
+use Rattle.star_schema.specs.{Groups.{AreGroups, Entry, GroupRow as Row, IsGroup, aggregate, belongs, joined, joined_with, members, totals_from}, declared.group.Aggregate.Aggregate, declared.group.Aggregate.TheVariants.Sum, declared.group.Aggregate.TheVariants.Count, declared.group.Aggregate.TheVariants.Min, declared.group.Aggregate.TheVariants.Max, declared.group.Shape.Shape}
 use Rattle.star_common.proofs.Members.{at_each, contains_cases, contains_here, contains_none}
 use Rattle.star_program.specs.{declared.key.KeyValue.KeyValue, Keys.key_value_cmp, Puts.Update}
 use Rattle.star_group.{specs.Held.has_puts, specs.StoreRows.AreRows, specs.Stores.Group, proofs.GroupKeys.{key_decides, masked_length, own_belongs}}
